@@ -1,0 +1,4 @@
+pub mod LayoutLaws
+pub mod OneByte
+pub mod UnusedVersions
+pub mod BlockLaws

@@ -1,0 +1,4 @@
+pub mod RowLaws
+pub mod FletcherLaws
+pub mod TurningLaws
+pub mod WorkedLaws

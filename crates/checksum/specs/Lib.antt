@@ -1,0 +1,4 @@
+pub mod Rows
+pub mod Fletcher
+pub mod Turning
+pub mod Worked

@@ -1,0 +1,7 @@
+pub mod View
+pub mod Masks
+pub mod Judge
+pub mod Findings
+pub mod Mend
+pub mod Renew
+pub mod Survey
