@@ -28,8 +28,11 @@ in-all (suc n) (suc c) = in-all n c
 pub slots-in : (n : ℕ) → slotsIn (replicate n In) ≡ allIn
 slots-in n = fun-ext (in-all n)
 
--- the mask of the stripe that code holds
+-- the stripe that code holds, with all slots in
+pub held-view : (E : Setup) (k : Content) (n s : ℕ) (t : Stripe) → E .D ≤ 7 → t ≡ stripeOf (viewOf E k (slotsIn (replicate n In)) s) → asView (t .parity) (t .«data») ≡ viewOf E k allIn s
+held-view E k n s t w e =
+    ap (λ x. asView (x .parity) (x .«data»)) e ∙ as-view E k (slotsIn (replicate n In)) s w ∙ ap (λ σ. viewOf E k σ s) (slots-in n)
+
+-- its mask
 pub mask-held : (E : Setup) (k : Content) (n s : ℕ) (t : Stripe) → E .D ≤ 7 → t ≡ stripeOf (viewOf E k (slotsIn (replicate n In)) s) → maskNumber (E .D) s (asView (t .parity) (t .«data»)) ≡ maskAt E k s
-mask-held E k n s t w e =
-    ap (λ x. maskNumber (E .D) s (asView (x .parity) (x .«data»))) e
-    ∙ ap (maskNumber (E .D) s) (as-view E k (slotsIn (replicate n In)) s w) ∙ ap (λ σ. maskNumber (E .D) s (viewOf E k σ s)) (slots-in n)
+mask-held E k n s t w e = ap (maskNumber (E .D) s) (held-view E k n s t w e)

@@ -1,0 +1,4 @@
+pub mod Refusing
+pub mod Seen
+pub mod Named
+pub mod Puts

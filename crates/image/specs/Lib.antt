@@ -1,0 +1,4 @@
+pub mod Extents
+pub mod Layout
+pub mod Making
+pub mod Sized
