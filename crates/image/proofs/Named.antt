@@ -6,7 +6,7 @@ use Prim.Native.Nat.{ℕ, _<_, _≤_}
 use native.Mathlib.Omega.{arith}
 use lib.Dec.{eqb}
 use lib.ListN.{length}
-use Rattle.std.proofs.shelf.Tests.{cond-true, cond-false, and-left, and-right, and-from, and-parts, lt-ltb, le-ltb, ltb-true, eq-eqb, ne-eqb, eqb-true}
+use Rattle.std.proofs.shelf.Tests.{cond-true, cond-false, and-left, and-right, and-from, lt-ltb, le-ltb, eq-eqb, ne-eqb}
 use Rattle.std.specs.declared.result.Result.{Result}
 use Rattle.std.specs.declared.result.Result.the-variants.{Ok, Err}
 use Rattle.block.specs.declared.refusal.Refusal.{Refusal}
@@ -16,11 +16,6 @@ use Rattle.shelf.specs.Model.{Content, inside, readAnswer, readBuffer, sightOf,
 -- the answer by its two tests, of the length and of the place
 abbrev answered : {T : Type 0} → Bool → Bool → T → Result T Refusal
 answered a b t = cond a (cond b (Ok t) (Err Place)) (Err Length)
-
-ok-parts : {T : Type 0} (a b : Bool) (q t : T) → Ok q ≡ answered a b t → (q ≡ t) × (a ≡ true) × (b ≡ true)
-ok-parts true true q t h = ((cc), refl, refl)
-ok-parts true false q t h = let z : _≡_ {A = ℕ} 0 1 = cc in absurd (omega arith)
-ok-parts false b q t h = let z : _≡_ {A = ℕ} 0 1 = cc in absurd (omega arith)
 
 -- a refusal does not depend on what would be answered
 err-same : {T U : Type 0} (a b : Bool) (t : T) (u : U) (e : Refusal) → Err e ≡ answered a b t → Err e ≡ answered a b u
@@ -51,14 +46,6 @@ module _ (n s i j : ℕ) where
     unfolding writeAnswer
     accepted e hi hj = cond-true _ _ _ (eq-eqb _ _ e) ∙ cond-true _ _ _ (and-from _ _ (lt-ltb i n hi) (lt-ltb j s hj))
 
-    -- what an accepted call says
-    pub accepts-parts : (q : T) → Ok q ≡ writeAnswer t n s i j len → (q ≡ t) × (len ≡ 128) × (i < n) × (j < s)
-    unfolding writeAnswer
-    accepts-parts q h =
-        let p = ok-parts (eqb len 128) (inside n s i j) q t h in
-        let w = and-parts _ _ (p .2) in
-        (p .0, eqb-true _ _ (p .1), ltb-true _ _ (w .0), ltb-true _ _ (w .1))
-
   module _ {T : Type 0} (t : T) (e : Refusal) where
     pub read-refused : (k : Content) (len : ℕ) → Err e ≡ writeAnswer t n s i j len → Err e ≡ readAnswer n s k i j len
     unfolding readAnswer writeAnswer
@@ -67,10 +54,6 @@ module _ (n s i j : ℕ) where
     pub buffer-refused : (k : Content) (was : List ℕ) → Err e ≡ writeAnswer t n s i j (length was) → was ≡ readBuffer n s k i j was
     unfolding readBuffer writeAnswer
     buffer-refused k was h = err-else (eqb (length was) 128) (inside n s i j) t (shownOf (k i j)) was e h
-
-    pub write-refused : {U : Type 0} (u : U) (len : ℕ) → Err e ≡ writeAnswer t n s i j len → Err e ≡ writeAnswer u n s i j len
-    unfolding writeAnswer
-    write-refused u len h = err-same (eqb len 128) (inside n s i j) t u e h
 
     pub none-taken : (bs : List ℕ) → Err e ≡ writeAnswer t n s i j (length bs) → [] ≡ writesTaken n s i j bs
     unfolding writesTaken writeAnswer

@@ -81,10 +81,12 @@ fn show_place(image: &[u8], places: usize, place: usize, buf: &mut [u8]) -> Sigh
     }
 }
 
-// The number of the place that a read or write of so many bytes names, or why it is refused.
-fn place_of(extent: Extent, slot: u32, block: u32, len: usize) -> Result<usize, Refusal>
-    ensures answer { λ r. ⌜ r ≡ writeAnswer (slot * blocksOf extent + block) (cardsOf extent) (blocksOf extent) slot block len ⌝ }
-    ensures bound { λ r. ⌜ made r (λ p. p < placesOf extent) ⌝ }
+// Whether a read or write of so many bytes names a place, or why it is refused.
+pub(crate) fn check_place(extent: Extent, slot: u32, block: u32, len: usize) -> Result<(), Refusal>
+    ensures answer { λ r. ⌜ r ≡ writeAnswer tt (cardsOf extent) (blocksOf extent) slot block len ⌝ }
+    ensures whole { λ r. ⌜ made r (λ _. len ≡ 128) ⌝ }
+    ensures slot { λ r. ⌜ made r (λ _. slot < cardsOf extent) ⌝ }
+    ensures block { λ r. ⌜ made r (λ _. block < blocksOf extent) ⌝ }
 {
     if len != 128 {
         return Err(Refusal::Length);
@@ -92,7 +94,7 @@ fn place_of(extent: Extent, slot: u32, block: u32, len: usize) -> Result<usize, 
     if slot >= extent.cards() || block >= extent.blocks() {
         return Err(Refusal::Place);
     }
-    Ok(extent.place(slot, block))
+    Ok(())
 }
 
 // A read of an image.
@@ -106,7 +108,8 @@ pub(crate) fn read_place(
     ensures answer { λ r. ⌜ r ≡ readAnswer (cardsOf extent) (blocksOf extent) (contentOf (cardsOf extent) (blocksOf extent) (now (image .entry))) slot block (length (now (buf .entry))) ⌝ }
     ensures buffer { λ _. ⌜ now (buf .exit) ≡ readBuffer (cardsOf extent) (blocksOf extent) (contentOf (cardsOf extent) (blocksOf extent) (now (image .entry))) slot block (now (buf .entry)) ⌝ }
 {
-    let place = place_of(extent, slot, block, buf.len())?;
+    check_place(extent, slot, block, buf.len())?;
+    let place = extent.place(slot, block);
     Ok(show_place(image, extent.places(), place, buf))
 }
 
@@ -146,7 +149,8 @@ pub(crate) fn write_place(
     ensures wrote { λ _. ⌜ imageConduct (cardsOf extent) (blocksOf extent) (vec-items (now (image .exit))) ≡ afterAll (imageConduct (cardsOf extent) (blocksOf extent) (vec-items (now (image .entry)))) (writesTaken (cardsOf extent) (blocksOf extent) slot block (now (bytes .entry))) ⌝ }
     ensures len { λ _. ⌜ vec-len (now (image .exit)) ≡ vec-len (now (image .entry)) ⌝ }
 {
-    let place = place_of(extent, slot, block, bytes.len())?;
+    check_place(extent, slot, block, bytes.len())?;
+    let place = extent.place(slot, block);
     put_place(image.as_mut_slice(), extent.places(), place, bytes);
     Ok(())
 }

@@ -1,0 +1,6 @@
+mod Conducts
+mod Fronts
+mod Marks
+mod Searches
+mod Sights
+mod Torn

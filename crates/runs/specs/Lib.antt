@@ -1,0 +1,12 @@
+pub mod Gather
+pub mod Reads
+pub mod Writes
+pub mod Scrubs
+pub mod Slots
+pub mod Looks
+pub mod Formats
+pub mod Book
+pub mod Runs
+pub mod Law
+pub mod Companions
+pub mod Done
