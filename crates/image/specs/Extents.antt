@@ -14,9 +14,11 @@ cardsFit n = leb 3 n && leb n 8
 abbrev pub blocksFit : ℕ → Bool
 blocksFit s = leb 1 s && leb s 65536
 
+-- both are in range
 abbrev pub shapeFits : ℕ → ℕ → Bool
 shapeFits n s = cardsFit n && blocksFit s
 
+-- the number that a count stands for
 abbrev pub countOf : CardCount → ℕ
 countOf Three = 3
 countOf Four = 4
@@ -25,9 +27,11 @@ countOf Six = 6
 countOf Seven = 7
 countOf Eight = 8
 
+-- the number of cards
 abbrev pub cardsOf : Extent → ℕ
 cardsOf e = countOf (e .count)
 
+-- the number of blocks of a card
 abbrev pub blocksOf : Extent → ℕ
 blocksOf e = e .last + 1
 

@@ -39,6 +39,7 @@ impl CardCount {
         }
     }
 
+    // The number that it stands for.
     fn number(self) -> u32
         ensures value { λ r. ⌜ r ≡ countOf self ⌝ }
         ensures low { λ r. ⌜ 3 ≤ r ⌝ }
@@ -70,6 +71,7 @@ impl Extent {
         Some(Extent { count, last })
     }
 
+    // The number of cards.
     pub(crate) fn cards(self) -> u32
         ensures value { λ r. ⌜ r ≡ cardsOf self ⌝ }
         ensures low { λ r. ⌜ 3 ≤ r ⌝ }
@@ -79,6 +81,7 @@ impl Extent {
         count.number()
     }
 
+    // The number of blocks of a card.
     pub(crate) fn blocks(self) -> u32
         ensures value { λ r. ⌜ r ≡ blocksOf self ⌝ }
         ensures low { λ r. ⌜ 1 ≤ r ⌝ }

@@ -1,0 +1,5 @@
+// Tests of what no contract says: sequences of calls on examples.
+#[cfg(test)]
+mod fault_layer;
+#[cfg(test)]
+mod mutants;
