@@ -51,7 +51,7 @@ module _ (E : Setup) (G : InRange E) where
     abbrev versions : List ℕ
     versions = table 7 (dataVersion (r .version))
 
-    data-plain : Plain E s (Data j) (r .payload) (r .owner) versions
+    pub data-plain : Plain E s (Data j) (r .payload) (r .owner) versions
     data-plain = record {
       long = f .long;
       bytes = each1-from-getD (λ x. x < 256) (r .payload) 0 (λ i l. f .bytes i);
@@ -72,7 +72,7 @@ module _ (E : Setup) (G : InRange E) where
   -- parity blocks
   module _ (s : ℕ) (row : ℕ → ℕ) (o : ℕ) (vs : ℕ → ℕ) (a : s < E .S) (h : (i : ℕ) → row i < 2 ^ 8) (q : o < 2 ^ 32)
       (u : (k : ℕ) → k < E .D → vs k < 2 ^ 32) where
-    parity-plain : Plain E s Parity (table 80 row) o (table 7 (mirrored (E .D) vs))
+    pub parity-plain : Plain E s Parity (table 80 row) o (table 7 (mirrored (E .D) vs))
     parity-plain = record {
       long = length-map-counting row 0 80;
       bytes = each-table 80 256 row h;

@@ -37,13 +37,13 @@ module _ (E : Setup) (C : CodecLaws E) (s : ℕ) (a : s < E .S) (f : ℕ → Rec
   abbrev owner : ℕ
   owner = xors (E .D) (λ k. R k .owner)
 
-  row-small : (i : ℕ) → row i < 2 ^ 8
+  pub row-small : (i : ℕ) → row i < 2 ^ 8
   row-small i = xors-lt (E .D) 8 (λ k. getD (R k .payload) i 0) (λ k _. F (s * E .D + k) .bytes i)
 
-  owner-small : owner < 2 ^ 32
+  pub owner-small : owner < 2 ^ 32
   owner-small = xors-lt (E .D) 32 (λ k. R k .owner) (λ k _. F (s * E .D + k) .owned)
 
-  vers-small : (k : ℕ) → k < E .D → R k .version < 2 ^ 32
+  pub vers-small : (k : ℕ) → k < E .D → R k .version < 2 ^ 32
   vers-small k _ = F (s * E .D + k) .versioned
 
   pub block-fit : (r : Role) → InStripe E r → alone E s r (Bytes (blockOf E f s r)) ≡ Readable (blockOf E f s r)

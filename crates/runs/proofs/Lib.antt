@@ -18,6 +18,8 @@ pub mod Outcomes
 pub mod Writing
 pub mod Spoils
 pub mod RunLaw
+pub mod Speaks
 pub mod Lands
 pub mod Chains
 pub mod Behind
+pub mod Witness

@@ -85,7 +85,7 @@ module _ (E : Setup) (k : Content) (σ : Slots) (t L o : ℕ) (on : Bool) (f b :
       go (inr x) (inl y) = inl (e ∙ ap (patchWrites σ (L / E .D)) (x ∙ y))
       go (inr x) (inr y) = inr (h, e ∙ ap (patchWrites σ (L / E .D)) (x ∙ y))
 
-  read-writes : Writes
+  pub read-writes : Writes
   unfolding readCall
   read-writes = go (cases-bool (eqb (length f) 128 && eqb (length b) 128)) (cases-lt L (E .D * E .S))
     where

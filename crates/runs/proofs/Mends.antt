@@ -153,6 +153,12 @@ module _ (E : Setup) (C : CodecLaws E) (s : ℕ) (a : s < E .S) (f : ℕ → Rec
         ap (λ g. g .obtained) (cond-false swift (gatheredQuick (V (Data j))) (gatheredAll E s V j) (set-slow E C s a f F V j l o t))
         ∙ cond-true (badRole (E .D) V (Data j)) (asRebuilt (patchOf E s V)) (asFound (V (Data j))) t
 
+    -- a read of a block in the mask looks at all places
+    pub looks-bad : badRole (E .D) V (Data j) ≡ true → gathered E s V j .looks ≡ E .D + 1
+    unfolding gathered gatheredAll
+    looks-bad t =
+        ap (λ g. g .looks) (cond-false swift (gatheredQuick (V (Data j))) (gatheredAll E s V j) (set-slow E C s a f F V j l o t))
+
     pub obtained-alone : Alone E s V (Data j) → gathered E s V j .obtained ≡ Rebuilt (dataOf E s j (R j))
     unfolding patchOf
     obtained-alone x =

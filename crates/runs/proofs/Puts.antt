@@ -27,7 +27,7 @@ abbrev pub expected : List Write → ℕ → ℕ → Cell → Cell
 expected [] c s x = x
 expected (w ∷ ws) c s x = expected ws c s (cond (named w c s) (Bytes (w .bytes)) x)
 
-named-not : (w : Write) (c s : ℕ) → (c ≡ w .slot → s ≡ w .block → ⊥) → named w c s ≡ false
+pub named-not : (w : Write) (c s : ℕ) → (c ≡ w .slot → s ≡ w .block → ⊥) → named w c s ≡ false
 named-not w c s h = go (cases-eq c (w .slot)) (cases-eq s (w .block))
   where
     go : (c ≡ w .slot) ⊎ (c ≡ w .slot → ⊥) → (s ≡ w .block) ⊎ (s ≡ w .block → ⊥) → named w c s ≡ false
@@ -35,7 +35,7 @@ named-not w c s h = go (cases-eq c (w .slot)) (cases-eq s (w .block))
     go (inl a) (inr b) = and-right (eqb c (w .slot)) (eqb s (w .block)) (ne-eqb s (w .block) b)
     go (inr a) o = and-left (eqb c (w .slot)) (eqb s (w .block)) (ne-eqb c (w .slot) a)
 
-named-yes : (w : Write) (c s : ℕ) → c ≡ w .slot → s ≡ w .block → named w c s ≡ true
+pub named-yes : (w : Write) (c s : ℕ) → c ≡ w .slot → s ≡ w .block → named w c s ≡ true
 named-yes w c s a b = and-from (eqb c (w .slot)) (eqb s (w .block)) (eq-eqb c (w .slot) a) (eq-eqb s (w .block) b)
 
 one-write : (N S : ℕ) (m : Conduct) → OwnCard N S m → (w : Write) (c s : ℕ) → c < N → s < S → (w .slot ≡ c → AsTold N S m w)

@@ -1,9 +1,9 @@
 -- Reads show the payload last accepted, or say that the block is lost.
-use mathlib.Core.Path.{_≡_, ap, _∙_}
+use mathlib.Core.Path.{_≡_, ap, ap₂, _∙_}
 use mathlib.Core.List.{List, []}
 use mathlib.Core.Bool.{Bool, true, _&&_}
 use mathlib.Core.Logic.{_⊎_, inl, inr}
-use Prim.Native.Nat.{ℕ, _*_, _/_, _%_, _<_}
+use Prim.Native.Nat.{ℕ, _+_, _*_, _/_, _%_, _<_}
 use lib.Dec.{eqb, ltb}
 use lib.ListN.{length, take}
 use Rattle.std.proofs.shelf.Tests.{eq-eqb, lt-ltb, cond-true, and-from}
@@ -32,8 +32,9 @@ use Rattle.runs.specs.Law.{InRange, ReadsRight, readIn}
 use Rattle.runs.specs.Reads.{readAnswer, foundBuffer, rebuiltBuffer, readAt, refusedRead, readFrom, readCall, shownBy, shown}
 use Rattle.runs.specs.Runs.{World, Good, Bad, OnlyBad, Orderly, Starts}
 use Rattle.runs.proofs.CodecLaws.{CodecLaws}
+use Rattle.runs.proofs.Decisions.{Alone}
 use Rattle.runs.proofs.Fields.{own-of-data, pay-of-data}
-use Rattle.runs.proofs.Mends.{obtained-good, obtained-alone, obtained-lost}
+use Rattle.runs.proofs.Mends.{looks-bad, obtained-good, obtained-alone, obtained-lost}
 use Rattle.runs.proofs.Worlds.{index-lt, stripe-lt, home, viewIn, fine-good, sorted, bad-set, only-alone, alone-only}
 
 -- the position of an address of the array
@@ -105,6 +106,15 @@ module _ (E : Setup) (G : InRange E) (C : CodecLaws E) (w : World) (I : Starts E
       (only-alone E C w I O s a (Data j) l x))
       ∙ (shows-rebuilt block (g .looks) (r .owner) owned ∙ ap Some paid)
 
+  answer-rebuilt : OnlyBad E w s (Data j)
+      → readAnswer (g .obtained) (g .looks) (r .owner) ≡ Ok (record { source = AsRebuilt; looks = E .D + 1 })
+  answer-rebuilt x =
+      let z : Alone E s V (Data j) = only-alone E C w I O s a (Data j) l x in
+      ap₂ (λ y n. readAnswer y n (r .owner))
+      (obtained-alone E C s a (w .book .records) (I .fits) V j l (sorted E C w I O s a) z)
+      (looks-bad E C s a (w .book .records) (I .fits) V j l (sorted E C w I O s a) (z .itself))
+      ∙ cond-true (eqb (ownerOf block) (r .owner)) (Ok (record { source = AsRebuilt; looks = E .D + 1 })) (Err OtherOwner) (eq-eqb _ _ owned)
+
   answer-lost : (Good E w s (Data j) ⊎ OnlyBad E w s (Data j) → ⊥) → readAnswer (g .obtained) (g .looks) (r .owner) ≡ Err IsLost
   answer-lost n =
       ap (λ z. readAnswer z (g .looks) (r .owner))
@@ -120,6 +130,13 @@ module _ (E : Setup) (G : InRange E) (C : CodecLaws E) (w : World) (I : Starts E
   unfolding readAt
   gives on f b fs x y c =
       ap shown (call-at E (w .shelf []) (w .array .slots) (w .array .tally) L (r .owner) on f b fs x y h) ∙ shown-good c
+
+  -- a stripe's only bad block is given rebuilt, after a look at all places
+  pub rebuilds : (on : Bool) (f b : List ℕ) (fs : List Finding) → length f ≡ 128 → length b ≡ 128 → OnlyBad E w s (Data j)
+      → readIn E w L (r .owner) on f b fs .answer ≡ Ok (record { source = AsRebuilt; looks = E .D + 1 })
+  unfolding readAt
+  rebuilds on f b fs x y c =
+      ap (λ z. z .answer) (call-at E (w .shelf []) (w .array .slots) (w .array .tally) L (r .owner) on f b fs x y h) ∙ answer-rebuilt c
 
   pub loses : (on : Bool) (f b : List ℕ) (fs : List Finding) → length f ≡ 128 → length b ≡ 128
       → (Good E w s (Data j) ⊎ OnlyBad E w s (Data j) → ⊥) → readIn E w L (r .owner) on f b fs .answer ≡ Err IsLost

@@ -40,7 +40,7 @@ zeros-small zero i = pow-pos 8
 zeros-small (suc n) zero = pow-pos 8
 zeros-small (suc n) (suc i) = zeros-small n i
 
-blank-fits : (L : ℕ) → Fits (blankBook .records L)
+pub blank-fits : (L : ℕ) → Fits (blankBook .records L)
 blank-fits L = record { long = length-replicate {A = ℕ} 80 0; bytes = zeros-small 80; owned = pow-pos 32; versioned = pow-pos 32 }
 
 -- the law of the runs that follow a format

@@ -69,7 +69,7 @@ module _ (E : Setup) (C : CodecLaws E) (w : World) (I : Starts E w) where
   pub fine-good : (s : ℕ) (r : Role) → s < E .S → InStripe E r → Good E w s r → Fine E s f (viewIn E w s) r
   fine-good s r a i g = judged s r i ∙ (ap (alone E s r) g ∙ block-fit E C s a f (I .fits) r i)
 
-  poor-bad : (s : ℕ) (r : Role) → InStripe E r → Bad E w s r → Poor E s f (viewIn E w s) r
+  pub poor-bad : (s : ℕ) (r : Role) → InStripe E r → Bad E w s r → Poor E s f (viewIn E w s) r
   poor-bad s r i (blind e) = unfit Blind (judged s r i ∙ e)
   poor-bad s r i (broken e) = unfit Broken (judged s r i ∙ e)
   poor-bad s r i (foreign e) = unfit Foreign (judged s r i ∙ e)

@@ -10,3 +10,4 @@ pub mod Runs
 pub mod Law
 pub mod Companions
 pub mod Done
+pub mod Witness

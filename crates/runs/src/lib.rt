@@ -4,10 +4,12 @@ mod shapes;
 
 pub use law::behind_stays;
 pub use law::law_holds;
+pub use law::law_speaks;
 pub use law::rebuild_is_steps;
 pub use law::same_parity;
 pub use law::scrub_is_steps;
 pub use law::scrub_mends;
+pub use law::witness_run;
 pub use law::write_lands;
 pub use shapes::Event;
 pub use shapes::Gathered;

@@ -74,8 +74,8 @@ fn print_survey(rt: &LibcRuntime, told: &Told, bytes: &[u8]) -> Result<(), AnyEr
         Err(refusal) => {
             let number = refusal.number();
             let length = bytes.len();
-            println!(rt, "refused by {number}: an image of 3 to 8 cards with 1 to 65536 blocks each has 129 bytes a block, and each flag is 0 or 1; this one has {length} bytes")?;
-            Err("the image was refused".into())
+            println!(rt, "refused by {number}: {length} bytes are no image of {cards} cards with {stripes} blocks each")?;
+            Err("3 to 8 cards, 1 to 65536 blocks a card, 129 bytes a block, and each flag 0 or 1".into())
         }
     }
 }
@@ -93,10 +93,16 @@ fn run(rt: &LibcRuntime) -> Result<(), AnyError> {
         return Err(USAGE.into());
     }
     let told = parse_told(words[2].as_str(), words[3].as_str(), words[4].as_str(), words[5].as_str())?;
-    let bytes = fs::read(rt, words[1].as_str())?;
-    print_survey(rt, &told, bytes.as_slice())
+    match fs::read(rt, words[1].as_str()) {
+        Ok(bytes) => print_survey(rt, &told, bytes.as_slice()),
+        Err(_) => Err("the image file cannot be read".into()),
+    }
 }
 
 fn main(rt: LibcRuntime) -> Result<(), AnyError> {
-    rt.report(run(&rt))
+    let ended = run(&rt);
+    if let Err(error) = &ended {
+        eprintln!(rt, "{error}")?;
+    }
+    ended
 }

@@ -1,0 +1,4 @@
+pub mod Put
+pub mod Refills
+pub mod Stripes
+pub mod Sweeps

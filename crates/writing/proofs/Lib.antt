@@ -1,0 +1,3 @@
+mod Ready
+mod Sends
+mod Two

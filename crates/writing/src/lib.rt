@@ -1,0 +1,6 @@
+// The write of an array.
+mod preparing;
+mod shapes;
+mod writes;
+
+pub use writes::write_call;
