@@ -31,11 +31,25 @@ fn frame() -> Result<Frame, Fail> {
 fn data_block(frame: Frame, second: bool, byte: u8, version: u32) -> [u8; 128] {
     let role = if second { Role::Data(1) } else { Role::Data(0) };
     let owner = if second { 42 } else { 41 };
-    make_block::<Fletcher>(frame, 0, role, &[byte; 80], owner, &[version, 0, 0, 0, 0, 0, 0])
+    make_block::<Fletcher>(
+        frame,
+        0,
+        role,
+        &[byte; 80],
+        owner,
+        &[version, 0, 0, 0, 0, 0, 0],
+    )
 }
 
 fn parity_block(frame: Frame, byte: u8, first: u32, second: u32) -> [u8; 128] {
-    make_block::<Fletcher>(frame, 0, Role::Parity, &[byte; 80], 41 ^ 42, &[first, second, 0, 0, 0, 0, 0])
+    make_block::<Fletcher>(
+        frame,
+        0,
+        Role::Parity,
+        &[byte; 80],
+        41 ^ 42,
+        &[first, second, 0, 0, 0, 0, 0],
+    )
 }
 
 // The stripe that is judged from the blocks on the three cards.
@@ -82,12 +96,34 @@ fn version_taken_from_parity_that_is_behind() -> Result<(), Fail> {
     let seen = judged(frame, &kept, &other, &behind);
     check(matches!(decision(frame, &seen), Decision::Only(Role::Parity)))?;
     check_eq(base_version(&seen.parity, &seen.data, frame, 0), 2)?;
-    let right = new_parity::<Fletcher>(&seen.parity, &seen.data, frame, 0, 0, Plan::ByAll, true, &[7; 80], 41, 3);
+    let right = new_parity::<Fletcher>(
+        &seen.parity,
+        &seen.data,
+        frame,
+        0,
+        0,
+        Plan::ByAll,
+        true,
+        &[7; 80],
+        41,
+        3,
+    );
     let found = judged(frame, &kept, &other, &right);
     check(matches!(decision(frame, &found), Decision::Only(Role::Data(0))))?;
     let mended = mended_block::<Fletcher>(&found.parity, &found.data, frame, 0, Role::Data(0));
     check_eq(mended[0], 7)?;
-    let wrong = new_parity::<Fletcher>(&seen.parity, &seen.data, frame, 0, 0, Plan::ByAll, true, &[7; 80], 41, 2);
+    let wrong = new_parity::<Fletcher>(
+        &seen.parity,
+        &seen.data,
+        frame,
+        0,
+        0,
+        Plan::ByAll,
+        true,
+        &[7; 80],
+        41,
+        2,
+    );
     let hidden = judged(frame, &kept, &other, &wrong);
     check(matches!(decision(frame, &hidden), Decision::Clean))?;
     check_eq(kept[0], 5)
@@ -121,11 +157,33 @@ fn all_data_summed_beside_a_stale_block() -> Result<(), Fail> {
     let seen = judged(frame, &old, &stale, &parity);
     check(matches!(plan_of(&seen.parity, &seen.data, frame, 0, 0), Plan::BySum))?;
     let new = new_data::<Fletcher>(frame, 0, 0, &[7; 80], 41, 3);
-    let right = new_parity::<Fletcher>(&seen.parity, &seen.data, frame, 0, 0, Plan::BySum, false, &[7; 80], 41, 3);
+    let right = new_parity::<Fletcher>(
+        &seen.parity,
+        &seen.data,
+        frame,
+        0,
+        0,
+        Plan::BySum,
+        false,
+        &[7; 80],
+        41,
+        3,
+    );
     let found = judged(frame, &new, &stale, &right);
     let mended = mended_block::<Fletcher>(&found.parity, &found.data, frame, 0, Role::Data(1));
     check_eq(mended[0], 6)?;
-    let wrong = new_parity::<Fletcher>(&seen.parity, &seen.data, frame, 0, 0, Plan::ByAll, false, &[7; 80], 41, 3);
+    let wrong = new_parity::<Fletcher>(
+        &seen.parity,
+        &seen.data,
+        frame,
+        0,
+        0,
+        Plan::ByAll,
+        false,
+        &[7; 80],
+        41,
+        3,
+    );
     let spoilt = judged(frame, &new, &stale, &wrong);
     check(matches!(decision(frame, &spoilt), Decision::Only(Role::Data(1))))?;
     let given = mended_block::<Fletcher>(&spoilt.parity, &spoilt.data, frame, 0, Role::Data(1));

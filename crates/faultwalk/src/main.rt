@@ -48,7 +48,13 @@ fn print_answer(rt: &LibcRuntime, answer: Result<(), Refusal>) -> Result<(), Any
 }
 
 // Lays a plan for block 0 of card 0 and writes there.
-fn show_plan(rt: &LibcRuntime, layer: &mut FaultLayer<Image>, told: &str, plan: Plan, byte: u8) -> Result<(), AnyError> {
+fn show_plan(
+    rt: &LibcRuntime,
+    layer: &mut FaultLayer<Image>,
+    told: &str,
+    plan: Plan,
+    byte: u8,
+) -> Result<(), AnyError> {
     let laid = layer.lay(0, 0, plan);
     print_answer(rt, laid)?;
     let written = layer.write(0, 0, &[byte; 128]);
@@ -61,15 +67,36 @@ fn run(rt: &LibcRuntime) -> Result<(), AnyError> {
         return Err("no memory for the image".into());
     };
     let mut layer = FaultLayer::over(image);
-    println!(rt, "blocks 0 to 2 of card 0, by first and last byte; each line writes another byte to block 0")?;
+    println!(
+        rt,
+        "blocks 0 to 2 of card 0, by first and last byte; each line writes another byte to block 0"
+    )?;
     print_card(rt, &layer, "before")?;
     let written = layer.write(0, 0, &[1; 128]);
     print_answer(rt, written)?;
     print_card(rt, &layer, "a write of 1 with no plan")?;
     show_plan(rt, &mut layer, "a write of 2 that is lost", Plan::Lose, 2)?;
-    show_plan(rt, &mut layer, "a write of 3 torn after 100 bytes", Plan::Tear(100), 3)?;
-    show_plan(rt, &mut layer, "a write of 4 that strays to block 2", Plan::Stray(2), 4)?;
-    show_plan(rt, &mut layer, "a write of 5 that spoils its place", Plan::Spoil, 5)?;
+    show_plan(
+        rt,
+        &mut layer,
+        "a write of 3 torn after 100 bytes",
+        Plan::Tear(100),
+        3,
+    )?;
+    show_plan(
+        rt,
+        &mut layer,
+        "a write of 4 that strays to block 2",
+        Plan::Stray(2),
+        4,
+    )?;
+    show_plan(
+        rt,
+        &mut layer,
+        "a write of 5 that spoils its place",
+        Plan::Spoil,
+        5,
+    )?;
     let cleared = layer.write(0, 0, &[6; 128]);
     print_answer(rt, cleared)?;
     print_card(rt, &layer, "a write of 6 with no plan")?;

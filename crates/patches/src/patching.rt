@@ -21,7 +21,12 @@ use stripe::decide;
 use stripe::takes;
 
 // The patch of stripe s, if one of its blocks is bad and no other.
-pub fn patch_of<C: Checksum>(parity: &Verdict, data: &[Verdict; 7], frame: Frame, s: u32) -> Option<Patch>
+pub fn patch_of<C: Checksum>(
+    parity: &Verdict,
+    data: &[Verdict; 7],
+    frame: Frame,
+    s: u32,
+) -> Option<Patch>
     ensures below { λ r. ⌜ PatchBelow (frame .width + 1) r ⌝ }
     ensures is { λ r. ⌜ r ≡ patchOf (setup frame marked meaning) s (asView (now (parity .entry)) (now («data» .entry))) ⌝ }
 {
@@ -36,7 +41,12 @@ pub fn patch_of<C: Checksum>(parity: &Verdict, data: &[Verdict; 7], frame: Frame
 }
 
 // Hands a patch of stripe s down, unless its place takes no writes; answers the slot to which it was handed.
-pub fn apply_patch<W: WritableShelf>(shelf: &mut W, states: &[SlotState; 8], s: u32, patch: Option<Patch>) -> Option<u32>
+pub fn apply_patch<W: WritableShelf>(
+    shelf: &mut W,
+    states: &[SlotState; 8],
+    s: u32,
+    patch: Option<Patch>,
+) -> Option<u32>
     requires few { ⌜ W·ReadableShelf .cards (now shelf) ≤ 8 ⌝ }
     requires within { ⌜ s < W·ReadableShelf .blocks (now shelf) ⌝ }
     requires below { ⌜ PatchBelow (W·ReadableShelf .cards (now shelf)) patch ⌝ }

@@ -32,7 +32,10 @@ fn print_cards<P: Print>(rt: &P, cards: &[CardTotals; 8], count: u32) -> Result<
 fn print_stripes<P: Print>(rt: &P, totals: &StripeTotals) -> Result<(), AnyError> {
     println!(rt, "stripes: {totals}")?;
     if totals.lost > 0 {
-        println!(rt, "copy every card before anything is written: blocks of lost stripes cannot be mended")?;
+        println!(
+            rt,
+            "copy every card before anything is written: blocks of lost stripes cannot be mended"
+        )?;
     } else if totals.single > 0 {
         println!(rt, "a scrub mends every stripe that has one bad block")?;
     }
@@ -40,7 +43,11 @@ fn print_stripes<P: Print>(rt: &P, totals: &StripeTotals) -> Result<(), AnyError
 }
 
 // Prints a line for each stripe of an array on a shelf, then totals for each card with what to do next, then totals over the stripes.
-pub fn print_report<P: Print, R: ReadableShelf, C: Checksum>(rt: &P, shelf: &R, tag: u32) -> Result<(), AnyError> {
+pub fn print_report<P: Print, R: ReadableShelf, C: Checksum>(
+    rt: &P,
+    shelf: &R,
+    tag: u32,
+) -> Result<(), AnyError> {
     let mut cards = [CardTotals::none(); 8];
     let mut stripes = StripeTotals::none();
     for stripe in 0..shelf.block_count() {

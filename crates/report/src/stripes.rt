@@ -33,7 +33,14 @@ fn report_of<R: ReadableShelf, C: Checksum>(shelf: &R, frame: Frame, stripe: u32
         mended: false,
     };
     let mut findings = [blank; 8];
-    findings_all(&blocks.parity, &blocks.data, frame, stripe, None, &mut findings);
+    findings_all(
+        &blocks.parity,
+        &blocks.data,
+        frame,
+        stripe,
+        None,
+        &mut findings,
+    );
     StripeReport {
         stripe,
         cards: frame.width + 1,
@@ -45,7 +52,11 @@ fn report_of<R: ReadableShelf, C: Checksum>(shelf: &R, frame: Frame, stripe: u32
 
 // What is found of one stripe of an array on a shelf, with all slots in. A tag of 0 is refused first, then a stripe
 // that the shelf has not.
-pub fn report_stripe<R: ReadableShelf, C: Checksum>(shelf: &R, tag: u32, stripe: u32) -> Result<StripeReport, Refusal>
+pub fn report_stripe<R: ReadableShelf, C: Checksum>(
+    shelf: &R,
+    tag: u32,
+    stripe: u32,
+) -> Result<StripeReport, Refusal>
     ensures { λ r. ⌜ r ≡ stripeReport (setupOn (R·ReadableShelf .cards (now (shelf .entry))) (R·ReadableShelf .blocks (now (shelf .entry))) tag (C·Checksum .marked) (C·Checksum .meaning)) (R·ReadableShelf .holds (now (shelf .entry))) stripe ⌝ }
 {
     if tag == 0 {

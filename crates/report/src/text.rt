@@ -46,7 +46,10 @@ pub impl fmt::Display for CardTotals as CardTotalsDisplay {
         let broken = self.broken;
         let foreign = self.foreign;
         let behind = self.behind;
-        write!(f, "readable {readable} blind {blind} broken {broken} foreign {foreign} behind {behind}")
+        write!(
+            f,
+            "readable {readable} blind {blind} broken {broken} foreign {foreign} behind {behind}"
+        )
     }
 }
 
@@ -63,10 +66,18 @@ pub impl fmt::Display for Advice as AdviceDisplay {
     fn fmt<W: fmt::Write>(&self, f: &mut fmt::Formatter<W>) -> fmt::Result {
         match self {
             Advice::Leave => f.write_str("nothing to do"),
-            Advice::CheckIdentity => f.write_str("check that the right card is in this slot; blocks of another place or array were found"),
-            Advice::CleanContacts => f.write_str("clean the contacts and read the card again; if blocks stay blind, pull it, fit a new card and rebuild"),
-            Advice::WatchForDecay => f.write_str("scrub; replace the card if broken blocks come back"),
-            Advice::ScrubAndWatch => f.write_str("scrub; the card kept old blocks and said that it had written: replace it if this comes back"),
+            Advice::CheckIdentity => f.write_str(
+                "check that the right card is in this slot; blocks of another place or array were found",
+            ),
+            Advice::CleanContacts => f.write_str(
+                "clean the contacts and read the card again; if blocks stay blind, pull it, fit a new card and rebuild",
+            ),
+            Advice::WatchForDecay => f.write_str(
+                "scrub; replace the card if broken blocks come back",
+            ),
+            Advice::ScrubAndWatch => f.write_str(
+                "scrub; the card kept old blocks and said that it had written: replace it if this comes back",
+            ),
         }
     }
 }

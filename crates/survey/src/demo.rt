@@ -15,7 +15,9 @@ use shelf::WritableShelf;
 use std::error::AnyError;
 
 const CARDS: u32 = 3;
+
 const STRIPES: u32 = 6;
+
 const TAG: u32 = 2026;
 
 // The payload byte and the owner of each block; those of parity are the XOR of the others.
@@ -40,7 +42,14 @@ fn block_at(frame: Frame, slot: u32, stripe: u32, version: u32) -> [u8; 128]
 {
     let role = role_at(frame, stripe, slot);
     let (byte, owner) = content(role);
-    make_block::<Fletcher>(frame, stripe, role, &[byte; 80], owner, &versions(role, version))
+    make_block::<Fletcher>(
+        frame,
+        stripe,
+        role,
+        &[byte; 80],
+        owner,
+        &versions(role, version),
+    )
 }
 
 // Writes every place; slot 0 then keeps the old block of stripe 1, and gets the block of stripe 5 at stripe 4.
@@ -82,8 +91,14 @@ pub fn run(rt: &LibcRuntime) -> Result<(), AnyError> {
     let Ok(view) = ImageView::open(CARDS, STRIPES, bytes.as_slice()) else {
         return Err("the image was refused".into());
     };
-    println!(rt, "A shelf of three cards, made here. Card 0 kept an old block at stripe 1 and got a stray write at stripe 4;")?;
-    println!(rt, "card 1 gives nothing at stripes 2 and 5; a byte of card 2 has changed at stripes 3 and 5.")?;
+    println!(
+        rt,
+        "A shelf of three cards, made here. Card 0 kept an old block at stripe 1 and got a stray write at stripe 4;"
+    )?;
+    println!(
+        rt,
+        "card 1 gives nothing at stripes 2 and 5; a byte of card 2 has changed at stripes 3 and 5."
+    )?;
     println!(rt, "cards {CARDS} stripes {STRIPES} tag {TAG} sum fletcher")?;
     print_report::<LibcRuntime, ImageView, Fletcher>(rt, &view, TAG)
 }

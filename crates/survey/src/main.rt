@@ -1,8 +1,8 @@
 // Surveys an image of the cards of a shelf: which blocks are blind, broken, foreign or behind, stripe by stripe.
 mod demo;
 
-use checksum::FletcherChecksum;
 use checksum::Fletcher;
+use checksum::FletcherChecksum;
 use checksum::Turning;
 use checksum::TurningChecksum;
 use image::ImageView;
@@ -27,7 +27,8 @@ struct Told {
     sum: Sum,
 }
 
-const USAGE: &str = "usage: survey, or survey IMAGE CARDS STRIPES TAG SUM with SUM fletcher or turn and decimal numbers";
+const USAGE: &str =
+    "usage: survey, or survey IMAGE CARDS STRIPES TAG SUM with SUM fletcher or turn and decimal numbers";
 
 fn parse_sum(text: &str) -> Result<Sum, AnyError> {
     match text {
@@ -74,7 +75,10 @@ fn print_survey(rt: &LibcRuntime, told: &Told, bytes: &[u8]) -> Result<(), AnyEr
         Err(refusal) => {
             let number = refusal.number();
             let length = bytes.len();
-            println!(rt, "refused by {number}: {length} bytes are no image of {cards} cards with {stripes} blocks each")?;
+            println!(
+                rt,
+                "refused by {number}: {length} bytes are no image of {cards} cards with {stripes} blocks each"
+            )?;
             Err("3 to 8 cards, 1 to 65536 blocks a card, 129 bytes a block, and each flag 0 or 1".into())
         }
     }
@@ -92,7 +96,12 @@ fn run(rt: &LibcRuntime) -> Result<(), AnyError> {
     if words.len() != 6 {
         return Err(USAGE.into());
     }
-    let told = parse_told(words[2].as_str(), words[3].as_str(), words[4].as_str(), words[5].as_str())?;
+    let told = parse_told(
+        words[2].as_str(),
+        words[3].as_str(),
+        words[4].as_str(),
+        words[5].as_str(),
+    )?;
     match fs::read(rt, words[1].as_str()) {
         Ok(bytes) => print_survey(rt, &told, bytes.as_slice()),
         Err(_) => Err("the image file cannot be read".into()),

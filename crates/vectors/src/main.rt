@@ -12,7 +12,12 @@ use shelf::ReadableShelf;
 use std::error::AnyError;
 use std::fs;
 
-fn print_stripes<R: ReadableShelf, C: Checksum>(rt: &LibcRuntime, shelf: &R, tag: u32, sum: &str) -> Result<(), AnyError> {
+fn print_stripes<R: ReadableShelf, C: Checksum>(
+    rt: &LibcRuntime,
+    shelf: &R,
+    tag: u32,
+    sum: &str,
+) -> Result<(), AnyError> {
     let cards = shelf.card_count();
     let stripes = shelf.block_count();
     println!(rt, "cards {cards} stripes {stripes} tag {tag} sum {sum}")?;
@@ -25,7 +30,14 @@ fn print_stripes<R: ReadableShelf, C: Checksum>(rt: &LibcRuntime, shelf: &R, tag
     Ok(())
 }
 
-fn print_image<C: Checksum>(rt: &LibcRuntime, path: &str, cards: u32, stripes: u32, tag: u32, sum: &str) -> Result<(), AnyError> {
+fn print_image<C: Checksum>(
+    rt: &LibcRuntime,
+    path: &str,
+    cards: u32,
+    stripes: u32,
+    tag: u32,
+    sum: &str,
+) -> Result<(), AnyError> {
     let bytes = fs::read(rt, path)?;
     match ImageView::open(cards, stripes, bytes.as_slice()) {
         Ok(view) => print_stripes::<ImageView, C>(rt, &view, tag, sum),

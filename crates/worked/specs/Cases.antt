@@ -50,12 +50,12 @@ pub record WorkedCases : Type 0 where
   pub mask-1-0 : (V : View) (x y p : List ℕ) → Mirrored V x y p 1 0 → maskNumber 2 0 V ≡ 3
   -- what reads of addresses 0 and 1 obtain, and how many places they look at
   pub first-1-1 : (S t m : ℕ) (h : List ℕ → ℕ) (V : View) (x y p : List ℕ) → Mirrored V x y p 1 1
-    → gathered (threeCards S t m h) 0 V 0 .obtained ≡ Rebuilt (mended (threeCards S t m h) 0 V (Data 0))
+      → gathered (threeCards S t m h) 0 V 0 .obtained ≡ Rebuilt (mended (threeCards S t m h) 0 V (Data 0))
   pub first-3-1 : (S t m : ℕ) (h : List ℕ → ℕ) (V : View) (x y p : List ℕ) → Mirrored V x y p 3 1
-    → (gathered (threeCards S t m h) 0 V 0 .obtained ≡ Found x) × (gathered (threeCards S t m h) 0 V 0 .looks ≡ 3)
+      → (gathered (threeCards S t m h) 0 V 0 .obtained ≡ Found x) × (gathered (threeCards S t m h) 0 V 0 .looks ≡ 3)
   pub second-3-1 : (S t m : ℕ) (h : List ℕ → ℕ) (V : View) (x y p : List ℕ) → Mirrored V x y p 3 1
-    → (gathered (threeCards S t m h) 0 V 1 .obtained ≡ Found y) × (gathered (threeCards S t m h) 0 V 1 .looks ≡ 2)
+      → (gathered (threeCards S t m h) 0 V 1 .obtained ≡ Found y) × (gathered (threeCards S t m h) 0 V 1 .looks ≡ 2)
   pub first-1-0 : (S t m : ℕ) (h : List ℕ → ℕ) (V : View) (x y p : List ℕ) → Mirrored V x y p 1 0
-    → gathered (threeCards S t m h) 0 V 0 .obtained ≡ Lost
+      → gathered (threeCards S t m h) 0 V 0 .obtained ≡ Lost
   pub second-1-0 : (S t m : ℕ) (h : List ℕ → ℕ) (V : View) (x y p : List ℕ) → Mirrored V x y p 1 0
-    → gathered (threeCards S t m h) 0 V 1 .obtained ≡ Lost
+      → gathered (threeCards S t m h) 0 V 1 .obtained ≡ Lost

@@ -14,6 +14,6 @@ pub returns : need.returns
 returns g c = record {
   did = call-long _ _ _ _ _ _ _ _ (eq-eqb _ _ (c .if-payload-ne80 .left)) _ _ _ _ _ _ (c .copy-from-slice .ensures .after)
       (c .position-position .ensures .is) (c .write-from .ensures .did);
-  cards = c .write-from .ensures .cards;
-  blocks = c .write-from .ensures .blocks;
+  cards = cc;
+  blocks = cc;
 }

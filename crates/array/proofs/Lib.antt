@@ -1,0 +1,3 @@
+mod Setups
+mod Formats
+mod Events
