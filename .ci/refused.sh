@@ -31,18 +31,17 @@ wrong=0
 for edit in .ci/refused/*.edit; do
     file=$(sed -n 's/^file: //p' "$edit")
     error=$(sed -n 's/^error: //p' "$edit")
-    python3 - "$edit" "$file" "$work/$file" <<'PY' || { wrong=1; continue; }
-import sys
-edit, source, target = sys.argv[1:]
-lines = open(edit, encoding='utf-8').read().split('\n')
-old = next(line[5:] for line in lines if line.startswith('old: '))
-new = next(line[5:] for line in lines if line.startswith('new: '))
-text = open(source, encoding='utf-8').read()
-if text.count(old) != 1:
-    print(f'{edit}: its old text does not stand once in {source}')
-    sys.exit(1)
-open(target, 'w', encoding='utf-8').write(text.replace(old, new))
-PY
+    old=$(sed -n 's/^old: //p' "$edit")
+    new=$(sed -n 's/^new: //p' "$edit")
+    text=$(cat "$file" && printf x)
+    text=${text%x}
+    rest=${text#*"$old"}
+    if [ "$rest" = "$text" ] || [ "${rest#*"$old"}" != "$rest" ]; then
+        echo "$edit: its old text does not stand once in $file"
+        wrong=1
+        continue
+    fi
+    printf '%s' "${text%%"$old"*}$new$rest" >"$work/$file"
     if compile; then
         echo "$edit: compiled, and must not be"
         wrong=1
