@@ -1,4 +1,3 @@
 pub mod LayoutLaws
 pub mod OneByte
 pub mod UnusedVersions
-pub mod BlockLaws

@@ -14,7 +14,7 @@ use Rattle.block.specs.declared.shapes.Role.the-variants.{Parity, Data}
 use Rattle.block.specs.Judging.{Setup}
 use Rattle.block.specs.Layout.{table}
 use Rattle.block.specs.Places.{slotOf, paritySlot}
-use Rattle.block.proofs.BlockLaws.{Plain, block-payload, block-byte, block-owner, block-version, block-readable, block-changed}
+use Rattle.runs.proofs.BlockLaws.{Plain, block-payload, block-byte, block-owner, block-version, block-readable, block-changed}
 use Rattle.stripe.specs.Renew.{dataVersion}
 use Rattle.runs.specs.Book.{Rec, Fits, dataOf}
 use Rattle.runs.specs.Law.{InRange}

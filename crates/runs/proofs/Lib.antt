@@ -1,3 +1,4 @@
+pub mod BlockLaws
 pub mod CodecLaws
 pub mod Codec
 pub mod Xors

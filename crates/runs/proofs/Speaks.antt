@@ -13,7 +13,7 @@ use Rattle.block.specs.declared.shapes.Role.{Role}
 use Rattle.block.specs.declared.shapes.Role.the-variants.{Parity, Data}
 use Rattle.block.specs.Judging.{Setup}
 use Rattle.block.specs.Places.{slotOf, roleAt}
-use Rattle.block.proofs.BlockLaws.{block-length}
+use Rattle.runs.proofs.BlockLaws.{block-length}
 use Rattle.shelf.specs.Model.{Write, Conduct, AsTold, Faithful, afterAll}
 use Rattle.stripe.specs.declared.shapes.Finding.{Finding}
 use Rattle.stripe.specs.Judge.{badRole}
