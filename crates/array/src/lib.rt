@@ -1,4 +1,6 @@
 // The array: cards on a shelf under one tag, and its calls.
+#![tactic(auto)]
+
 mod array;
 mod calls;
 mod damage;

@@ -61,7 +61,7 @@ pub fn encode(fields: &Fields, sum: u32) -> [u8; 128]
 
 // The block of the fields under a checksum.
 pub fn seal<C: Checksum>(fields: &Fields) -> [u8; 128]
-    ensures { result ≡ sealed_by meaning fields.now }
+    ensures { result ≡ sealed_by C.meaning fields.now }
 {
     let mut out = [0u8; 128];
     put_fields(fields, 0, &mut out);

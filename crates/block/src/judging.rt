@@ -36,7 +36,7 @@ pub fn make_block<C: Checksum>(
     versions: &[u32; 7],
 ) -> [u8; 128]
     requires placed { (j : ℕ) → role ≡ Role.Data j → j < frame.width }
-    ensures { result ≡ block_with (setup frame marked meaning) stripe role payload.now owner versions.now }
+    ensures { result ≡ block_with (setup frame C.marked C.meaning) stripe role payload.now owner versions.now }
 {
     let row = *payload;
     let seven = *versions;
@@ -67,7 +67,7 @@ fn unused_zero(block: &[u8; 128], used: u32) -> bool
 }
 
 fn is_broken<C: Checksum>(block: &[u8; 128]) -> bool
-    ensures { result ≡ broken_by meaning block.now }
+    ensures { result ≡ broken_by C.meaning block.now }
 {
     be32(block, 124) != C::sum(block)
 }
@@ -84,7 +84,7 @@ fn marks_fit(frame: Frame, mark: u8, stripe: u32, role: Role, block: &[u8; 128])
 
 fn is_native<C: Checksum>(frame: Frame, stripe: u32, role: Role, block: &[u8; 128]) -> bool
     requires placed { (j : ℕ) → role ≡ Role.Data j → j < frame.width }
-    ensures { result ≡ native_block (setup frame marked meaning) stripe role block.now }
+    ensures { result ≡ native_block (setup frame C.marked C.meaning) stripe role block.now }
 {
     marks_fit(frame, C::mark_byte(), stripe, role, block)
         && be32(block, 84) == stripe
@@ -96,8 +96,8 @@ fn is_native<C: Checksum>(frame: Frame, stripe: u32, role: Role, block: &[u8; 12
 // A block with its right sum, any one byte of it changed to any other value, is judged broken.
 pub fn judge_block<C: Checksum>(frame: Frame, stripe: u32, role: Role, block: &[u8; 128]) -> Verdict
     requires placed { (j : ℕ) → role ≡ Role.Data j → j < frame.width }
-    ensures is { result ≡ judged (setup frame marked meaning) stripe role block.now }
-    ensures one_byte { (was : List ℕ) (i v : ℕ) → RightSum meaning was → i < 128 → (slice_index was i ≢ v) → block.now ≡ slice_set was i v → result ≡ Verdict.Unfit Defect.Broken }
+    ensures is { result ≡ judged (setup frame C.marked C.meaning) stripe role block.now }
+    ensures one_byte { (was : List ℕ) (i v : ℕ) → RightSum C.meaning was → i < 128 → (slice_index was i ≢ v) → block.now ≡ slice_set was i v → result ≡ Verdict.Unfit Defect.Broken }
 {
     if is_broken::<C>(block) {
         Verdict::Unfit(Defect::Broken)
@@ -111,7 +111,7 @@ pub fn judge_block<C: Checksum>(frame: Frame, stripe: u32, role: Role, block: &[
 // What is seen of a place, judged alone.
 pub fn judge<C: Checksum>(frame: Frame, stripe: u32, role: Role, cell: &Cell) -> Verdict
     requires placed { (j : ℕ) → role ≡ Role.Data j → j < frame.width }
-    ensures { result ≡ alone (setup frame marked meaning) stripe role cell.now }
+    ensures { result ≡ alone (setup frame C.marked C.meaning) stripe role cell.now }
 {
     match cell {
         Cell::Nothing => Verdict::Unfit(Defect::Blind),

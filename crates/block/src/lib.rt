@@ -1,4 +1,6 @@
 // Places, the 128 bytes of a block, and the judging of a block alone.
+#![tactic(auto)]
+
 mod codec;
 mod frame;
 mod judging;

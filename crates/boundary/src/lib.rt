@@ -1,5 +1,7 @@
 // The array for callers in C or Rust: two functions on numbers and byte slices, each of which makes all that it needs.
 // outside/PROTOCOL.md says what they take and give.
+#![tactic(auto)]
+
 ghost use Rattle.std.specs.Prelude.{◌≤◌, length};
 
 use answers::Answers;

@@ -1,4 +1,6 @@
 // Checksums of the first 124 bytes of a block: what a checksum is, and two of them.
+#![tactic(auto)]
+
 mod fletcher;
 mod sum;
 mod turning;

@@ -59,8 +59,8 @@ pub trait Checksum {
 
 // Whether a block's first 124 bytes have this sum. If it is the sum of bytes that differ from them in exactly one, they do not.
 pub fn has_sum<C: Checksum>(block: &[u8; 128], sum: u32) -> bool
-    ensures is { result ≡ (sum == meaning (take 124 block.now)) }
-    ensures shows { (was : List ℕ) → Row was → OneApart was (take 124 block.now) → sum ≡ meaning was → result ≡ false }
+    ensures is { result ≡ (sum == C.meaning (take 124 block.now)) }
+    ensures shows { (was : List ℕ) → Row was → OneApart was (take 124 block.now) → sum ≡ C.meaning was → result ≡ false }
 {
     sum == C::sum(block)
 }

@@ -1,4 +1,6 @@
 // A worked example: a checksum and a shelf of its own under the array. docs/EXTENDING.md goes through it.
+#![tactic(auto)]
+
 mod counted;
 mod formats;
 mod plain;

@@ -1,4 +1,6 @@
 // Shows each fault of the fault layer once, over an image of three cards with three blocks each.
+#![tactic(auto)]
+
 use anyhow::anyhow;
 use block::Refusal;
 use faults::{FaultLayer, Plan};

@@ -1,4 +1,6 @@
 // A shelf in memory: an image that owns its bytes, and a view over lent bytes.
+#![tactic(auto)]
+
 mod extent;
 mod failures;
 mod image;

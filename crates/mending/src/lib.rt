@@ -1,4 +1,6 @@
 // The blocks that mend a stripe, and those that a write makes.
+#![tactic(auto)]
+
 mod mend;
 mod renew;
 mod rows;

@@ -1,4 +1,6 @@
 // One charging session of a car park, from plug to barrier, on five cards that sometimes lie.
+#![tactic(auto)]
+
 mod words;
 
 use anyhow::anyhow;

@@ -58,7 +58,7 @@ fn gather_all<C: Checksum>(
 ) -> Gathered
     requires placed { j < frame.width }
     ensures below { PatchBelow (frame.width + 1) result.patch }
-    ensures is { result ≡ gathered_all (setup frame marked meaning) s (as_view parity.now «data».now) j }
+    ensures is { result ≡ gathered_all (setup frame C.marked C.meaning) s (as_view parity.now «data».now) j }
 {
     let patch = patch_of::<C>(parity, data, frame, s);
     let looks = frame.width + 1;
@@ -96,7 +96,7 @@ fn sight_quick(block: &Verdict) -> Sighted
 fn sight_all<C: Checksum>(stripe: Stripe, frame: Frame, s: u32, j: u32) -> Sighted
     requires placed { j < frame.width }
     ensures below { PatchBelow (frame.width + 1) result.gathered.patch }
-    ensures is { result ≡ sighted_all (setup frame marked meaning) s stripe j }
+    ensures is { result ≡ sighted_all (setup frame C.marked C.meaning) s stripe j }
 {
     let gathered = gather_all::<C>(&stripe.parity, &stripe.data, frame, s, j);
     Sighted {

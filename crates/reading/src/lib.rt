@@ -1,4 +1,6 @@
 // Reads of an array.
+#![tactic(auto)]
+
 mod gathering;
 mod looking;
 mod reading;

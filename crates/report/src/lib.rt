@@ -1,4 +1,6 @@
 // Reports of what is found on a shelf, stripe by stripe and card by card.
+#![tactic(auto)]
+
 mod shapes;
 mod shelves;
 mod stripes;

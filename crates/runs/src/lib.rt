@@ -1,4 +1,6 @@
 // The definitions of the calls, the plain book, and the law over runs.
+#![tactic(auto)]
+
 mod law;
 mod shapes;
 

@@ -1,4 +1,6 @@
 // A shelf of cards: what can be read of it, and what it does with writes.
+#![tactic(auto)]
+
 ghost use Rattle.std.specs.Prelude.{◌≡◌, ℕ, ◌<◌, ◌≤◌, List, [], ◌∷◌, length};
 ghost use Rattle.shelf.specs.Model.{Content, Conduct, OwnCard, AllSized, read_answer, read_buffer, write_answer, writes_taken, after_all, write_of};
 

@@ -1,4 +1,6 @@
 // A stripe: what is seen of its places, and what follows.
+#![tactic(auto)]
+
 mod causes;
 mod looks;
 mod masks;

@@ -1,4 +1,6 @@
 // Surveys an image of the cards of a shelf: which blocks are blind, broken, foreign or behind, stripe by stripe.
+#![tactic(auto)]
+
 mod demo;
 
 use anyhow::anyhow;

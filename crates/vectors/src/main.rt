@@ -1,4 +1,6 @@
 // Surveys card images that another implementation made, with known damage; the expected lines are that implementation's.
+#![tactic(auto)]
+
 use anyhow::anyhow;
 use checksum::{Checksum, Fletcher, Turning};
 use image::ImageView;

@@ -1,4 +1,6 @@
 // The write of an array.
+#![tactic(auto)]
+
 mod preparing;
 mod shapes;
 mod writes;

@@ -42,7 +42,7 @@ fn pair_at<C: Checksum>(
     owner: u32,
 ) -> Result<Pair, Refusal>
     requires { j < frame.width }
-    ensures { result ≡ pair_at base (setup frame marked meaning) s (as_view parity.now «data».now) j plan bad payload.now owner }
+    ensures { result ≡ pair_at base (setup frame C.marked C.meaning) s (as_view parity.now «data».now) j plan bad payload.now owner }
 {
     if base < 4294967295 {
         let next = base + 1;
@@ -70,7 +70,7 @@ fn pair_of<C: Checksum>(
     owner: u32,
 ) -> Result<Pair, Refusal>
     requires { j < frame.width }
-    ensures { result ≡ pair_of plan bad (setup frame marked meaning) s (as_view parity.now «data».now) j payload.now owner }
+    ensures { result ≡ pair_of plan bad (setup frame C.marked C.meaning) s (as_view parity.now «data».now) j payload.now owner }
 {
     let base = base_version(parity, data, frame, j);
     match plan {
@@ -113,7 +113,7 @@ fn prepare_quick<C: Checksum>(
     owner: u32,
 ) -> Prepared
     requires { j < frame.width }
-    ensures { (V : View) → block ≡ V (Role.Data j) → parity.now ≡ V Role.Parity → result ≡ prepared_by true (setup frame marked meaning) s V j payload.now owner }
+    ensures { (V : View) → block ≡ V (Role.Data j) → parity.now ≡ V Role.Parity → result ≡ prepared_by true (setup frame C.marked C.meaning) s V j payload.now owner }
 {
     let mut data = [Verdict::Unfit(Defect::Blind); 7];
     data[j as usize] = block;
@@ -142,7 +142,7 @@ fn prepare_full<C: Checksum>(
     owner: u32,
 ) -> Prepared
     requires { j < frame.width }
-    ensures { result ≡ prepared_by false (setup frame marked meaning) s (as_view parity.now «data».now) j payload.now owner }
+    ensures { result ≡ prepared_by false (setup frame C.marked C.meaning) s (as_view parity.now «data».now) j payload.now owner }
 {
     let plan = plan_of(parity, data, frame, s, j);
     let bad = bad_role(parity, data, frame, Role::Parity);

@@ -5,6 +5,6 @@ use Rattle.block.proofs.codec.encode.Goals as goal
 
 pub returns : goal.returns
 returns c = record {
-  is = c.put-fields.ensures.is;
-  back = ap decoded c.put-fields.ensures.is ∙ there_and_back c.args.fields.now c.args.sum c.put-fields.ensures.sound;
+  is = c.put_fields.ensures.is;
+  back = ap decoded c.put_fields.ensures.is ∙ there_and_back c.args.fields.now c.args.sum c.put_fields.ensures.sound;
 }

@@ -4,4 +4,4 @@ use Rattle.block.proofs.judging.make_block.Goals as goal
 
 pub returns : goal.returns
 unfolding block_with
-returns g c = let e = c.slot-of.ensures.is in cc
+returns g c = let e = c.slot_of.ensures.is in cc
