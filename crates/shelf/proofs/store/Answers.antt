@@ -7,7 +7,7 @@ pub returns : goal.returns
 returns g c =
     let k = g.W.WritableShelf.conduct c.args.shelf.now in
     record {
-      wrote = c.write.ensures.wrote ∙ ap (after_all k) (taken _ _ _ _ c.requires.slot-within c.requires.block_within _ (search rules));
+      wrote = c.write.ensures.wrote ∙ ap (after_all k) (taken _ _ _ _ c.requires.slot_within c.requires.block_within _ (search rules));
       cards = c.write.ensures.cards;
       blocks = c.write.ensures.blocks;
     }

@@ -13,9 +13,9 @@ returns c =
     let d : take 88 c.put_word.new.out ≡ take 84 c.put-2.new.out ++ bytes_of f.block = c.put_word.ensures in
     let e : take 92 c.put_word-2.new.out ≡ take 88 c.put_word.new.out ++ bytes_of f.owner = c.put_word-2.ensures in
     let h : take 120 c.put_words.new.out ≡ take 92 c.put_word-2.new.out ++ bytes_of_all f.versions = ap (λ n. take n c.put_words.new.out) (sym q) ∙ c.put_words.ensures.front in
-    let i : take 124 c.put-word-3.new.out ≡ take 120 c.put_words.new.out ++ bytes_of f.tag = c.put-word-3.ensures in
-    let j : take 128 c.put-word-4.new.out ≡ take 124 c.put-word-3.new.out ++ bytes_of c.args.sum = c.put-word-4.ensures in
-    let k : take 128 c.put-word-4.new.out ≡ c.put-word-4.new.out = take_all 128 c.put-word-4.new.out (omega arith) in
+    let i : take 124 c.put_word-3.new.out ≡ take 120 c.put_words.new.out ++ bytes_of f.tag = c.put_word-3.ensures in
+    let j : take 128 c.put_word-4.new.out ≡ take 124 c.put_word-3.new.out ++ bytes_of c.args.sum = c.put_word-4.ensures in
+    let k : take 128 c.put_word-4.new.out ≡ c.put_word-4.new.out = take_all 128 c.put_word-4.new.out (omega arith) in
     record {
       is = cc;
       sound = record {

@@ -23,14 +23,14 @@ module _ (h : List ℕ → ℕ) (tells : (xs ys : List ℕ) → Row xs → Row y
   one_byte : (v' : Verdict) (was : List ℕ) (i v : ℕ) → RightSum h was → i < 128 → (get_or was i 0 ≡ v → ⊥) → b ≡ set was i v → v' ≡ Unfit Broken
   one_byte v' was i v s l ne e = absurd (never h b was i v e bytes left (changed_is_broken h tells was i v s l ne))
 
-pub returns-then-is-native : goal.returns-then-is-native
-returns-then-is-native g c = record {
+pub returns-then-is_native : goal.returns-then-is_native
+returns-then-is_native g c = record {
   is = search rules;
-  one_byte = one_byte g.C.Checksum.meaning g.met.C.Checksum.tells _ (bytes_of c.args.block.now c.fits-block) (sym c.is-broken.ensures ∙ c.if-is-broken.false) _;
+  one_byte = one_byte g.C.Checksum.meaning g.met.C.Checksum.tells _ (bytes_of c.args.block.now c.fits-block) (sym c.is_broken.ensures ∙ c.if-is_broken.false) _;
 }
 
-pub returns-else-is-native : goal.returns-else-is-native
-returns-else-is-native g c = record {
+pub returns-else-is_native : goal.returns-else-is_native
+returns-else-is_native g c = record {
   is = search rules;
-  one_byte = one_byte g.C.Checksum.meaning g.met.C.Checksum.tells _ (bytes_of c.args.block.now c.fits-block) (sym c.is-broken.ensures ∙ c.if-is-broken.false) _;
+  one_byte = one_byte g.C.Checksum.meaning g.met.C.Checksum.tells _ (bytes_of c.args.block.now c.fits-block) (sym c.is_broken.ensures ∙ c.if-is_broken.false) _;
 }

@@ -7,7 +7,7 @@ pub loop-slot-init : goal.loop-slot-init
 loop-slot-init c = filled_none 8 _ _ (omega arith)
 
 pub loop-slot-preserved : goal.loop-slot-preserved
-loop-slot-preserved c = filled_more 8 _ c.loop-slot.slot _ _ (omega arith) c.loop-slot.invariant c.found-at.ensures
+loop-slot-preserved c = filled_more 8 _ c.loop-slot.slot _ _ (omega arith) c.loop-slot.invariant c.found_at.ensures
 
 pub returns : goal.returns
 unfolding findings_all

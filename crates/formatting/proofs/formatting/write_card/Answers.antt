@@ -8,10 +8,10 @@ use Rattle.formatting.proofs.formatting.write_card.Goals as goal
 pub loop-block-init : goal.loop-block-init
 loop-block-init g c = (ap (after_all (g.W.WritableShelf.conduct c.args.shelf.now)) (sym (card_none _ _)), refl, refl)
 
-pub write-place-requires : goal.write-place-requires
-write-place-requires g c = record {
+pub write_place-requires : goal.write_place-requires
+write_place-requires g c = record {
   cards = c.loop-block.invariant.1 ∙ c.requires.cards;
-  slot-within = c.requires.slot-within;
+  slot_within = c.requires.slot_within;
   block_within = omega (arith, c.loop-block.invariant.2, c.requires.blocks);
 }
 
@@ -19,7 +19,7 @@ pub loop-block-preserved : goal.loop-block-preserved
 loop-block-preserved g c =
     let k = g.W.WritableShelf.conduct in
     let E : Setup = setup c.args.frame g.C.Checksum.marked g.C.Checksum.meaning in
-    let e = c.write-place.ensures in (
+    let e = c.write_place.ensures in (
       after_more (k c.args.shelf.now) _ _ (card_writes E c.args.slot c.loop-block.block) _ c.loop-block.invariant.0 e.wrote
           ∙ ap (after_all (k c.args.shelf.now)) (sym (card_more E c.args.slot c.loop-block.block)),
       e.cards ∙ c.loop-block.invariant.1,

@@ -8,18 +8,18 @@ use Rattle.formatting.proofs.formatting.write_cards.Goals as goal
 pub loop-slot-init : goal.loop-slot-init
 loop-slot-init g c = (ap (after_all (g.W.WritableShelf.conduct c.args.shelf.now)) (sym (format_none _)), refl, refl)
 
-pub write-card-requires : goal.write-card-requires
-write-card-requires g c = record {
+pub write_card-requires : goal.write_card-requires
+write_card-requires g c = record {
   cards = c.loop-slot.invariant.1 ∙ c.requires.cards;
   blocks = c.loop-slot.invariant.2 ∙ c.requires.blocks;
-  slot-within = omega arith;
+  slot_within = omega arith;
 }
 
 pub loop-slot-preserved : goal.loop-slot-preserved
 loop-slot-preserved g c =
     let k = g.W.WritableShelf.conduct in
     let E : Setup = setup c.args.frame g.C.Checksum.marked g.C.Checksum.meaning in
-    let e = c.write-card.ensures in (
+    let e = c.write_card.ensures in (
       after_more (k c.args.shelf.now) _ _ (format_slots E c.loop-slot.slot) _ c.loop-slot.invariant.0 e.wrote
           ∙ ap (after_all (k c.args.shelf.now)) (sym (format_more E c.loop-slot.slot)),
       e.cards ∙ c.loop-slot.invariant.1,

@@ -13,11 +13,11 @@ module _ (fs : List ℕ) (i : ℕ) (h : i < length fs) where
   next : true ≡ leb (get_or fs i 0) 1 → flags_fit (drop i fs) ≡ flags_fit (drop (i + 1) fs)
   next e = at_drop_more flags_fit fs i 0 h ∙ ap (λ b. b && flags_fit (drop (i + 1) fs)) (sym e)
 
-pub returns-then-not-flag-fits : goal.returns-then-not-flag-fits
-returns-then-not-flag-fits c = sym (stop c.args.flags.now c.loop-flag.flag-index (omega arith) c.if-not-flag-fits.ensures) ∙ c.loop-flag.invariant
+pub returns-then-not-flag_fits : goal.returns-then-not-flag_fits
+returns-then-not-flag_fits c = sym (stop c.args.flags.now c.loop-flag.flag-index (omega arith) c.if-not-flag_fits.ensures) ∙ c.loop-flag.invariant
 
 pub loop-flag-preserved : goal.loop-flag-preserved
-loop-flag-preserved c = sym (next c.args.flags.now c.loop-flag.flag-index (omega arith) c.if-not-flag-fits.ensures) ∙ c.loop-flag.invariant
+loop-flag-preserved c = sym (next c.args.flags.now c.loop-flag.flag-index (omega arith) c.if-not-flag_fits.ensures) ∙ c.loop-flag.invariant
 
 pub returns : goal.returns
 returns c = sym (at_drop_all flags_fit c.args.flags.now c.loop-flag.flag-index (omega arith)) ∙ c.loop-flag.invariant

@@ -8,10 +8,10 @@ use Rattle.image.specs.Sized.{content_in}
 use Rattle.image.proofs.Named.{read_refused, buffer_refused}
 use Rattle.image.proofs.places.read_place.Goals as goal
 
-pub returns-in-err-check-place : goal.returns-in-err-check-place
-returns-in-err-check-place c =
+pub returns-in_err-check_place : goal.returns-in_err-check_place
+returns-in_err-check_place c =
     let p = err_from_is_err_and c.from-residual.result c.from-residual.ensures.1 in
-    let e = c.in-err-check-place.ensures.answer in
+    let e = c.in_err-check_place.ensures.answer in
     rw (p.1, p.2) record { answer = read_refused _ _ _ _ _ _ _ _ e; buffer = buffer_refused _ _ _ _ _ _ _ _ e }
 
 pub returns : goal.returns
@@ -21,9 +21,9 @@ returns c =
     let xs = c.args.image.now in
     let i = c.args.slot in
     let j = c.args.block in
-    let e = c.in-ok-check-place.ensures in
+    let e = c.in_ok-check_place.ensures in
     let here = ap₂ (λ m q. cell_at m xs q) c.places.ensures.value c.place-place.ensures.value ∙ sym (content_in n s xs i j e.slot e.block) in
     record {
-      answer = ap Ok (c.show-place.ensures.answer ∙ ap sight_of here) ∙ sym (answered n s i j e.slot e.block (content_of n s xs) _ e.whole);
-      buffer = c.show-place.ensures.buffer ∙ ap shown_of here ∙ sym (filled n s i j e.slot e.block (content_of n s xs) _ e.whole);
+      answer = ap Ok (c.show_place.ensures.answer ∙ ap sight_of here) ∙ sym (answered n s i j e.slot e.block (content_of n s xs) _ e.whole);
+      buffer = c.show_place.ensures.buffer ∙ ap shown_of here ∙ sym (filled n s i j e.slot e.block (content_of n s xs) _ e.whole);
     }

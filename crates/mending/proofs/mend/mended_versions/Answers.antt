@@ -7,7 +7,7 @@ pub loop-k-init : goal.loop-k-init
 loop-k-init c = filled_none 7 _ _ refl
 
 pub loop-k-preserved : goal.loop-k-preserved
-loop-k-preserved c = filled_more 7 _ c.loop-k.k _ _ (omega arith) c.loop-k.invariant c.mended-version.ensures
+loop-k-preserved c = filled_more 7 _ c.loop-k.k _ _ (omega arith) c.loop-k.invariant c.mended_version.ensures
 
 pub returns : goal.returns
 unfolding mended_versions

@@ -4,4 +4,4 @@ use Rattle.mending.proofs.renew.new_data.Goals as goal
 
 pub returns : goal.returns
 unfolding new_data
-returns g c = c.make-block.ensures
+returns g c = c.make_block.ensures

@@ -7,7 +7,7 @@ pub loop-k-init : goal.loop-k-init
 loop-k-init c = filled_none 7 _ _ refl
 
 pub loop-k-preserved : goal.loop-k-preserved
-loop-k-preserved c = filled_more 7 _ c.loop-k.k _ _ (omega arith) c.loop-k.invariant c.new-version-at.ensures
+loop-k-preserved c = filled_more 7 _ c.loop-k.k _ _ (omega arith) c.loop-k.invariant c.new_version_at.ensures
 
 pub returns : goal.returns
 unfolding new_versions

@@ -4,4 +4,4 @@ use Rattle.mending.proofs.renew.plan_of.Goals as goal
 
 pub returns : goal.returns
 unfolding plan_of
-returns c = c.plan-for.ensures ∙ ap₂ plan_for c.is-touched.ensures c.decide.ensures.is
+returns c = c.plan_for.ensures ∙ ap₂ plan_for c.is_touched.ensures c.decide.ensures.is

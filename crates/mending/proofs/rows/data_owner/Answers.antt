@@ -14,6 +14,6 @@ loop-k-preserved c =
     let f = λ (k : ℕ). owner_in (get_or c.args.«data».now k (Unfit Blind)) in
     let here : c.if-k-j.all ≡ at f c.args.j c.args.owner c.loop-k.k = elim c.if-k-j.branch [
       | then-k-j w ↦ w.all-is ∙ at_here f _ _ _ w.if-k-j.true
-      | else-k-j w ↦ w.all-is ∙ w.owner-in.ensures ∙ at_other f _ _ _ w.if-k-j.false
+      | else-k-j w ↦ w.all-is ∙ w.owner_in.ensures ∙ at_other f _ _ _ w.if-k-j.false
     ] in
     xors_more (at f c.args.j c.args.owner) _ _ _ c.loop-k.invariant here

@@ -11,6 +11,6 @@ returns-in-Only g c =
     let V = as_view c.args.parity.now c.args.«data».now in
     let made : ℕ → List ℕ → Option Patch = λ x b. Some (record { slot = x; bytes = b }) in
     record {
-      below = omega (arith, c.slot-of.ensures.below);
-      is = ap₂ made c.slot-of.ensures.is c.mended-block.ensures ∙ ap (patch_by E c.args.s V) (sym c.in-Only.is);
+      below = omega (arith, c.slot_of.ensures.below);
+      is = ap₂ made c.slot_of.ensures.is c.mended_block.ensures ∙ ap (patch_by E c.args.s V) (sym c.in-Only.is);
     }

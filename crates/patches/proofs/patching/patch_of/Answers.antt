@@ -5,5 +5,5 @@ use Rattle.patches.proofs.patching.patch_of.Goals as goal
 pub returns : goal.returns
 unfolding patch_of
 returns g c =
-    let e = c.patch-by.ensures in
+    let e = c.patch_by.ensures in
     record { below = e.below; is = e.is ∙ ap (patch_by _ _ _) c.decide-decision.ensures.is }

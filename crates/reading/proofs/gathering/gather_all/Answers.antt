@@ -6,22 +6,22 @@ use Rattle.runs.specs.declared.shapes.Patch.{Patch}
 use Rattle.runs.specs.Gather.{as_rebuilt, gathered_all}
 use Rattle.reading.proofs.gathering.gather_all.Goals as goal
 
-pub returns-then-bad-role : goal.returns-then-bad-role
+pub returns-then-bad_role : goal.returns-then-bad_role
 unfolding gathered_all
-returns-then-bad-role g c =
+returns-then-bad_role g c =
     let made : Obtained → Option Patch → Gathered = λ x p. record { obtained = x; looks = c.args.frame.width + 1; patch = p } in
     record {
-      below = c.patch-of-patch.ensures.below;
+      below = c.patch_of-patch.ensures.below;
       is = ap₂ made
-          (c.as-rebuilt.ensures ∙ ap as_rebuilt c.patch-of-patch.ensures.is ∙ sym (cond-true _ _ _ (sym c.if-bad-role.ensures)))
-          c.patch-of-patch.ensures.is;
+          (c.as_rebuilt.ensures ∙ ap as_rebuilt c.patch_of-patch.ensures.is ∙ sym (cond-true _ _ _ (sym c.if-bad_role.ensures)))
+          c.patch_of-patch.ensures.is;
     }
 
-pub returns-else-bad-role : goal.returns-else-bad-role
+pub returns-else-bad_role : goal.returns-else-bad_role
 unfolding gathered_all
-returns-else-bad-role g c =
+returns-else-bad_role g c =
     let made : Obtained → Option Patch → Gathered = λ x p. record { obtained = x; looks = c.args.frame.width + 1; patch = p } in
     record {
-      below = c.patch-of-patch.ensures.below;
-      is = ap₂ made (c.as-found.ensures ∙ sym (cond-false _ _ _ (sym c.if-bad-role.ensures))) c.patch-of-patch.ensures.is;
+      below = c.patch_of-patch.ensures.below;
+      is = ap₂ made (c.as_found.ensures ∙ sym (cond-false _ _ _ (sym c.if-bad_role.ensures))) c.patch_of-patch.ensures.is;
     }

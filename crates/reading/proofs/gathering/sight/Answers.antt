@@ -12,18 +12,18 @@ use Rattle.reading.proofs.gathering.sight.Goals as goal
 pub returns-then-quick : goal.returns-then-quick
 unfolding sighted
 returns-then-quick g c =
-    let both = ap₂ (λ a b. quick a b c.args.j) c.sight-data-block.ensures c.judge-place-parity.ensures in
+    let both = ap₂ (λ a b. quick a b c.args.j) c.sight_data-block.ensures c.judge_place-parity.ensures in
     record {
-      below = subst⁻¹ (λ (x : Sighted). PatchBelow (c.args.frame.width + 1) x.gathered.patch) c.sight-quick.ensures tt;
-      is = c.sight-quick.ensures ∙ ap sighted_quick c.sight-data-block.ensures ∙ sym (cond-true _ _ _ (sym (c.if-quick.ensures ∙ both)));
+      below = subst⁻¹ (λ (x : Sighted). PatchBelow (c.args.frame.width + 1) x.gathered.patch) c.sight_quick.ensures tt;
+      is = c.sight_quick.ensures ∙ ap sighted_quick c.sight_data-block.ensures ∙ sym (cond-true _ _ _ (sym (c.if-quick.ensures ∙ both)));
     }
 
 pub returns-else-quick : goal.returns-else-quick
 unfolding sighted
 returns-else-quick g c =
     let E = setup c.args.frame g.C.Checksum.marked g.C.Checksum.meaning in
-    let both = ap₂ (λ a b. quick a b c.args.j) c.sight-data-block.ensures c.judge-place-parity.ensures in
+    let both = ap₂ (λ a b. quick a b c.args.j) c.sight_data-block.ensures c.judge_place-parity.ensures in
     record {
-      below = c.sight-all.ensures.below;
-      is = c.sight-all.ensures.is ∙ ap (λ (x : Stripe). sighted_all E c.args.s x c.args.j) c.look.ensures ∙ sym (cond-false _ _ _ (sym (c.if-quick.ensures ∙ both)));
+      below = c.sight_all.ensures.below;
+      is = c.sight_all.ensures.is ∙ ap (λ (x : Stripe). sighted_all E c.args.s x c.args.j) c.look.ensures ∙ sym (cond-false _ _ _ (sym (c.if-quick.ensures ∙ both)));
     }

@@ -6,9 +6,9 @@ pub returns : goal.returns
 returns g c = record {
   done =
       done_from _ _ _ _ _ c.args.frame.most _ _ _ c.sight-sighted.result c.settle-settled.result _ _ _ _ _ _ _ _
-      c.sight-sighted.ensures.is c.settle-settled.ensures c.read-patch-patch.ensures.is c.apply-patch-mended.ensures.slot
-      c.apply-patch-mended.ensures.wrote c.fill-findings.ensures c.copy-from-slice.ensures.after
-      c.copy-from-slice-2.ensures.after refl;
-  cards = c.apply-patch-mended.ensures.cards;
-  blocks = c.apply-patch-mended.ensures.blocks;
+      c.sight-sighted.ensures.is c.settle-settled.ensures c.read_patch-patch.ensures.is c.apply_patch-mended.ensures.slot
+      c.apply_patch-mended.ensures.wrote c.fill_findings.ensures c.copy_from_slice.ensures.after
+      c.copy_from_slice-2.ensures.after refl;
+  cards = c.apply_patch-mended.ensures.cards;
+  blocks = c.apply_patch-mended.ensures.blocks;
 }

@@ -5,9 +5,9 @@ use Rattle.scrubbing.proofs.refilling.refill_at.Goals as goal
 
 pub returns : goal.returns
 returns g c =
-    let e = c.refill-one-mended.ensures in
+    let e = c.refill_one-mended.ensures in
     record {
-      did = refill_is _ _ c.args.s (g.W.WritableShelf.conduct c.args.shelf.now) _ _ _ c.args.counts _ c.refill-one-mended.result
+      did = refill_is _ _ c.args.s (g.W.WritableShelf.conduct c.args.shelf.now) _ _ _ c.args.counts _ c.refill_one-mended.result
           e.is e.wrote (put_slot_lem c.args.states.now c.args.slot _ (omega arith)) c.recount.ensures.is;
       below = c.recount.ensures.below;
       cards = e.cards;

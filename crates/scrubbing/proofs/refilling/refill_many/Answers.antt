@@ -8,7 +8,7 @@ loop-i-init g c = (refills_none _ _ _, refl, refl, record { moved = omega arith;
 pub loop-i-preserved : goal.loop-i-preserved
 loop-i-preserved g c =
     let inv = c.loop-i.invariant in
-    let e = c.refill-next-counts.ensures in
+    let e = c.refill_next-counts.ensures in
     (refills_more _ _ c.loop-i.i _ _ _ inv.0 e.did, e.cards ∙ inv.1, e.blocks ∙ inv.2, e.below)
 
 pub returns : goal.returns

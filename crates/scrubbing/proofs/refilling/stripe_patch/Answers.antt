@@ -16,4 +16,4 @@ returns g c =
     let met = g.met.W.WritableShelf in
     let now = c.args.shelf.now in
     let V = held E _ _ (slots_in c.args.states.now) s _ (omega arith) c.look-stripe.ensures (sym (met.starts now ∙ met.same now)) in
-    λ slot. ap (refill_from slot s) (c.patch-of.ensures.is ∙ ap (patch_of E s) V) ∙ from_patch E s _ slot
+    λ slot. ap (refill_from slot s) (c.patch_of.ensures.is ∙ ap (patch_of E s) V) ∙ from_patch E s _ slot

@@ -13,9 +13,9 @@ loop-i-init g c = (
 pub loop-i-preserved : goal.loop-i-preserved
 loop-i-preserved g c =
     let inv = c.loop-i.invariant in
-    let e = c.sweep-one-swept.ensures in (
-      so_far_more _ _ c.loop-i.i c.args.stripes _ (g.W.WritableShelf.conduct c.loop-i.shelf) _ c.loop-i.cursor _ c.cursor-at-s.result c.loop-i.counts _ c.loop-i.findings _ c.sweep-one-swept.result
-          inv.0 c.cursor-at-s.ensures.is e.is e.wrote e.findings c.cursor-next.ensures c.count-counts.ensures.is,
+    let e = c.sweep_one-swept.ensures in (
+      so_far_more _ _ c.loop-i.i c.args.stripes _ (g.W.WritableShelf.conduct c.loop-i.shelf) _ c.loop-i.cursor _ c.cursor_at-s.result c.loop-i.counts _ c.loop-i.findings _ c.sweep_one-swept.result
+          inv.0 c.cursor_at-s.ensures.is e.is e.wrote e.findings c.cursor_next.ensures c.count-counts.ensures.is,
       e.cards ∙ inv.1,
       e.blocks ∙ inv.2,
       c.count-counts.ensures.below,

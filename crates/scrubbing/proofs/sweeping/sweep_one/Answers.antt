@@ -18,15 +18,15 @@ returns g c =
     let s = c.args.s in
     let met = g.met.W.WritableShelf in
     let now = c.args.shelf.now in
-    let V = held E _ _ σ s _ (omega arith) c.look-into.ensures (sym (met.starts now ∙ met.same now)) in
+    let V = held E _ _ σ s _ (omega arith) c.look_into.ensures (sym (met.starts now ∙ met.same now)) in
     let d = c.decide-decision.ensures.is ∙ ap (decision E.D s) V in
-    let m = c.apply-patch-mended.ensures in
-    let p = c.patch-by-patch.ensures.is ∙ ap₂ (patch_by E s) V d in
+    let m = c.apply_patch-mended.ensures in
+    let p = c.patch_by-patch.ensures.is ∙ ap₂ (patch_by E s) V d in
     record {
-      is = c.swept-by.ensures ∙ ap (swept_by E.D σ s) d;
+      is = c.swept_by.ensures ∙ ap (swept_by E.D σ s) d;
       wrote = m.wrote ∙ ap (λ x. after_all (g.W.WritableShelf.conduct now) (patch_writes σ s x)) p;
       findings =
-          c.fill-last.ensures
+          c.fill_last.ensures
           ∙ ap (λ (fs : List Finding). cond c.args.last fs c.args.findings.now) (ap₂ (findings_all E.D s) V (m.slot ∙ ap (patched_slot σ s) p));
       cards = m.cards;
       blocks = m.blocks;

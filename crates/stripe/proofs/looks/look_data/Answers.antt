@@ -9,7 +9,7 @@ pub loop-j-init : goal.loop-j-init
 loop-j-init g c = filled_none 7 _ _ c.told-data
 
 pub loop-j-preserved : goal.loop-j-preserved
-loop-j-preserved g c = filled_more 7 _ c.loop-j.j _ _ (omega arith) c.loop-j.invariant c.judge-data.ensures
+loop-j-preserved g c = filled_more 7 _ c.loop-j.j _ _ (omega arith) c.loop-j.invariant c.judge_data.ensures
 
 pub returns : goal.returns
 unfolding row_of

@@ -4,14 +4,14 @@ use Rattle.stripe.proofs.MaskLaws.{clean, only, gone, low}
 use Rattle.stripe.proofs.masks.decide.Goals as goal
 
 pub returns-in-0 : goal.returns-in-0
-returns-in-0 c = record { is = clean _ _ _ _ c.mask-of-mask.ensures c.in-0.is; placed = search rules }
+returns-in-0 c = record { is = clean _ _ _ _ c.mask_of-mask.ensures c.in-0.is; placed = search rules }
 
 pub returns-in-1 : goal.returns-in-1
 returns-in-1 c =
-    let l : count_trailing_zeros 8 c.mask-of-mask.result ≤ c.args.frame.width = low _ _ _ _ c.mask-of-mask.ensures (omega arith) c.in-1.is in
-    record { is = only _ _ _ _ c.mask-of-mask.ensures (omega arith) c.in-1.is _ c.role-at.ensures.is; placed = search rules }
+    let l : count_trailing_zeros 8 c.mask_of-mask.result ≤ c.args.frame.width = low _ _ _ _ c.mask_of-mask.ensures (omega arith) c.in-1.is in
+    record { is = only _ _ _ _ c.mask_of-mask.ensures (omega arith) c.in-1.is _ c.role_at.ensures.is; placed = search rules }
 
-pub returns-in-default : goal.returns-in-default
-returns-in-default c =
-    let h : 2 ≤ ones c.mask-of-mask.result = omega arith in
-    record { is = gone _ _ _ _ c.mask-of-mask.ensures h; placed = search rules }
+pub returns-in_default : goal.returns-in_default
+returns-in_default c =
+    let h : 2 ≤ ones c.mask_of-mask.result = omega arith in
+    record { is = gone _ _ _ _ c.mask_of-mask.ensures h; placed = search rules }

@@ -8,7 +8,7 @@ pub loop-s-init : goal.loop-s-init
 loop-s-init g c = filled_none _ _ _ c.requires.long
 
 pub loop-s-preserved : goal.loop-s-preserved
-loop-s-preserved g c = filled_more _ _ c.loop-s.s _ _ (omega arith) c.loop-s.invariant c.mask-at.ensures
+loop-s-preserved g c = filled_more _ _ c.loop-s.s _ _ (omega arith) c.loop-s.invariant c.mask_at.ensures
 
 pub returns : goal.returns
 unfolding stripe_masks

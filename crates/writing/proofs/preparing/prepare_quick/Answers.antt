@@ -12,6 +12,6 @@ returns g c = λ V e h.
     let E = setup c.args.frame g.C.Checksum.marked g.C.Checksum.meaning in
     let row = set (replicate 7 (Unfit Blind)) c.args.j c.args.block in
     ap (λ x. record { looks = 2; pair = x })
-    (c.pair-of-pair.ensures
+    (c.pair_of-pair.ensures
     ∙ pair_two E c.args.s (as_view c.args.parity.now row) V c.args.j c.args.payload.now c.args.owner
     (get_or-set_same (replicate 7 (Unfit Blind)) c.args.j c.args.block (Unfit Blind) (omega arith) ∙ e) h)

@@ -5,16 +5,16 @@ use Rattle.runs.specs.Gather.{quick}
 use Rattle.writing.proofs.Ready.{ready_two, ready_all}
 use Rattle.writing.proofs.preparing.prepare_two.Goals as goal
 
-pub returns-then-is-quick : goal.returns-then-is-quick
-returns-then-is-quick g c =
+pub returns-then-is_quick : goal.returns-then-is_quick
+returns-then-is_quick g c =
     let V = view_of (setup c.args.frame g.C.Checksum.marked g.C.Checksum.meaning) (g.R.ReadableShelf.holds c.args.shelf.now) (slots_in c.args.states.now) c.args.s in
     ready_two _ _ _ _ _ _ _ _ _
-    (c.if-is-quick.ensures ∙ ap₂ (λ b q. quick b q c.args.j) c.judge-place-block.ensures c.judge-place-parity.ensures)
-    (c.prepare-quick.ensures V c.judge-place-block.ensures c.judge-place-parity.ensures)
-    c.findings-quick.ensures
+    (c.if-is_quick.ensures ∙ ap₂ (λ b q. quick b q c.args.j) c.judge_place-block.ensures c.judge_place-parity.ensures)
+    (c.prepare_quick.ensures V c.judge_place-block.ensures c.judge_place-parity.ensures)
+    c.findings_quick.ensures
 
-pub returns-else-is-quick : goal.returns-else-is-quick
-returns-else-is-quick g c =
+pub returns-else-is_quick : goal.returns-else-is_quick
+returns-else-is_quick g c =
     ready_all _ _ _ _ _ _ _ _ _
-    (c.if-is-quick.ensures ∙ ap₂ (λ b q. quick b q c.args.j) c.judge-place-block.ensures c.judge-place-parity.ensures)
-    c.prepare-all.ensures
+    (c.if-is_quick.ensures ∙ ap₂ (λ b q. quick b q c.args.j) c.judge_place-block.ensures c.judge_place-parity.ensures)
+    c.prepare_all.ensures

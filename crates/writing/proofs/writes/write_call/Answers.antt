@@ -12,8 +12,8 @@ returns-then-payload-ne80 g c = record {
 
 pub returns : goal.returns
 returns g c = record {
-  did = call_long _ _ _ _ _ _ _ _ (eq-eqb _ _ c.if-payload-ne80.false) _ _ _ _ _ _ c.copy-from-slice.ensures.after
-      c.position-position.ensures.is c.write-from.ensures.did;
+  did = call_long _ _ _ _ _ _ _ _ (eq-eqb _ _ c.if-payload-ne80.false) _ _ _ _ _ _ c.copy_from_slice.ensures.after
+      c.position-position.ensures.is c.write_from.ensures.did;
   cards = cc;
   blocks = cc;
 }

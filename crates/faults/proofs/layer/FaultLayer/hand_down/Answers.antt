@@ -16,7 +16,7 @@ returns-in-None g c =
       below =
           c.write.ensures.wrote
           ∙ ap (after_all (g.W.WritableShelf.conduct shelf))
-          (taken n s c.args.slot c.args.block c.requires.slot-within c.requires.block_within c.args.bytes.now c.requires.whole
+          (taken n s c.args.slot c.args.block c.requires.slot_within c.requires.block_within c.args.bytes.now c.requires.whole
           ∙ sym (ap by c.in-None.is));
       table = refl;
       cards = c.write.ensures.cards;

@@ -36,8 +36,8 @@ returns g c =
     let k = g.W.WritableShelf.conduct c.args.self.now.shelf in
     record {
       answer = write_done tt _ _ _ _ _ c.if-bytes-ne128.false there;
-      below = c.write-by-plan.ensures.below ∙ ap (after_all k) (accepted_passed _ _ _ (write_of c.args.slot c.args.block c.args.bytes.now) _ yes');
-      rows = c.write-by-plan.ensures.rows ∙ accepted_rows _ _ _ (write_of c.args.slot c.args.block c.args.bytes.now) yes';
-      cards = c.write-by-plan.ensures.cards;
-      blocks = c.write-by-plan.ensures.blocks;
+      below = c.write_by_plan.ensures.below ∙ ap (after_all k) (accepted_passed _ _ _ (write_of c.args.slot c.args.block c.args.bytes.now) _ yes');
+      rows = c.write_by_plan.ensures.rows ∙ accepted_rows _ _ _ (write_of c.args.slot c.args.block c.args.bytes.now) yes';
+      cards = c.write_by_plan.ensures.cards;
+      blocks = c.write_by_plan.ensures.blocks;
     }

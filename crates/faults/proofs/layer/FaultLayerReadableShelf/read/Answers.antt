@@ -3,9 +3,9 @@ use Rattle.faults.specs.Tables.{rows_of}
 use Rattle.faults.proofs.Sights.{answer_below, buffer_below, answer_length, buffer_length, answer_place, buffer_place, answer_blind, buffer_blind}
 use Rattle.faults.proofs.layer.FaultLayerReadableShelf.read.Goals as goal
 
-pub returns-then-not-is-marked : goal.returns-then-not-is-marked
-returns-then-not-is-marked g c =
-    let no = sym c.is-marked.ensures ∙ c.if-not-is-marked.true in
+pub returns-then-not-is_marked : goal.returns-then-not-is_marked
+returns-then-not-is_marked g c =
+    let no = sym c.is_marked.ensures ∙ c.if-not-is_marked.true in
     record {
       answer = c.read.ensures.answer ∙ answer_below _ _ _ _ _ (rows_of c.args.self.now.table) no _;
       buffer = c.read.ensures.buffer ∙ buffer_below _ _ _ _ _ (rows_of c.args.self.now.table) no _;
@@ -27,7 +27,7 @@ returns-then-not-has g c =
 
 pub returns : goal.returns
 returns g c =
-    let there = sym c.is-marked.ensures ∙ c.if-not-is-marked.false in
+    let there = sym c.is_marked.ensures ∙ c.if-not-is_marked.false in
     let in_range_lem = sym c.has.ensures ∙ c.if-not-has.false in
     record {
       answer = answer_blind _ _ _ _ _ (rows_of c.args.self.now.table) there in_range_lem _ c.if-buf-ne128.false;

@@ -7,8 +7,8 @@ use Rattle.faults.proofs.layer.FaultLayerWritableShelf.write.Goals as goal
 pub returns : goal.returns
 returns g c =
     let was = c.args.self.now in
-    let is = c.write-through.new.self in
-    let e = c.write-through.ensures in
+    let is = c.write_through.new.self in
+    let e = c.write_through.ensures in
     let met = g.met.W.WritableShelf in
     record {
       answer = e.answer;

@@ -5,11 +5,11 @@ use Rattle.faults.proofs.table.Table.mark_on.Goals as goal
 
 pub loop-i-preserved : goal.loop-i-preserved
 loop-i-preserved c =
-    mark_miss c.args.self.now.rows _ _ c.loop-i-test.true (omega arith) _ _ (sym c.is-mark.ensures ∙ c.if-is-mark.false) ∙ c.loop-i.invariant
+    mark_miss c.args.self.now.rows _ _ c.loop-i-test.true (omega arith) _ _ (sym c.is_mark.ensures ∙ c.if-is_mark.false) ∙ c.loop-i.invariant
 
-pub returns-then-is-mark : goal.returns-then-is-mark
-returns-then-is-mark c =
-    mark_hit c.args.self.now.rows _ _ c.loop-i-test.true (omega arith) _ _ (sym c.is-mark.ensures ∙ c.if-is-mark.true) ∙ c.loop-i.invariant
+pub returns-then-is_mark : goal.returns-then-is_mark
+returns-then-is_mark c =
+    mark_hit c.args.self.now.rows _ _ c.loop-i-test.true (omega arith) _ _ (sym c.is_mark.ensures ∙ c.if-is_mark.true) ∙ c.loop-i.invariant
 
 pub returns : goal.returns
 returns c =

@@ -3,8 +3,8 @@ use Rattle.std.proofs.lemmas.List.{length-take-le}
 use Rattle.faults.specs.Searches.{plan_within}
 use Rattle.faults.proofs.table.Table.pass.Goals as goal
 
-pub use-up-requires : goal.use-up-requires
-use-up-requires c =
+pub use_up-requires : goal.use_up-requires
+use_up-requires c =
     let n = c.args.self.now.used in
     let rows = c.args.self.now.rows in
     let l : c.in-Some.planned.index < length (take n rows) =

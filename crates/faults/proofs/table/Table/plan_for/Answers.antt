@@ -5,11 +5,11 @@ use Rattle.faults.proofs.table.Table.plan_for.Goals as goal
 
 pub loop-i-preserved : goal.loop-i-preserved
 loop-i-preserved c =
-    plan_miss c.args.self.now.rows _ _ c.loop-i-test.true (omega arith) _ _ (sym c.plan-at.ensures ∙ c.in-default.is) ∙ c.loop-i.invariant
+    plan_miss c.args.self.now.rows _ _ c.loop-i-test.true (omega arith) _ _ (sym c.plan_at.ensures ∙ c.in_default.is) ∙ c.loop-i.invariant
 
 pub returns-in-Some : goal.returns-in-Some
 returns-in-Some c =
-    plan_hit c.args.self.now.rows _ _ c.loop-i-test.true (omega arith) _ _ _ (sym c.plan-at.ensures ∙ c.in-Some.is) ∙ c.loop-i.invariant
+    plan_hit c.args.self.now.rows _ _ c.loop-i-test.true (omega arith) _ _ _ (sym c.plan_at.ensures ∙ c.in-Some.is) ∙ c.loop-i.invariant
 
 pub returns : goal.returns
 returns c =

@@ -30,5 +30,5 @@ loop-index-smaller c =
 
 pub returns : goal.returns
 returns c =
-    unmarked_none 0 c.args.slot c.args.block (rows_of c.loop-index.self) (sym c.mark-on.ensures ∙ c.in-default.is)
+    unmarked_none 0 c.args.slot c.args.block (rows_of c.loop-index.self) (sym c.mark_on.ensures ∙ c.in_default.is)
     ∙ c.loop-index.invariant

@@ -9,4 +9,4 @@ returns c =
     let j = c.args.block in
     let e = c.args.self in
     let value : i * c.blocks-2.result + j ≡ i * blocks_of e + j = ap (λ s. i * s + j) c.blocks-2.ensures.value in
-    record { value = value; bound = omega (arith, place_lt (cards_of e) (blocks_of e) i j c.requires.slot-within c.requires.block_within) }
+    record { value = value; bound = omega (arith, place_lt (cards_of e) (blocks_of e) i j c.requires.slot_within c.requires.block_within) }
