@@ -19,7 +19,7 @@ pub returns : goal.returns
 returns c =
     let k : c.loop-i.i ≡ length c.args.ns.now = omega arith in
     record {
-      fit = Each1-from_get_or (λ n. n < 2 ^ 32) c.args.ns.now 0 (λ k h. (c.ok.ns k).fits);
+      fit = Each1-from_get_or (λ n. n < 2 ^ 32) c.args.ns.now 0 (λ k h. (c.type_inv.ns k).fits);
       front =
           ap (λ n. take (c.args.at + 4 * n) c.loop-i.out) (sym k) ∙ c.loop-i.invariant
           ∙ ap (λ t. take c.args.at c.args.out.now ++ bytes_of_all t) (take_all c.loop-i.i c.args.ns.now c.loop-i-test.false);
