@@ -33,9 +33,9 @@ impl<W: WritableShelf, C: Checksum> Array<W, C> {
         rebuilt: &mut [u8],
         findings: &mut [Finding; 8],
     ) -> Result<ReadAnswer, Refusal>
-        ensures done { ReadDone (read_call (setup_on (W.ReadableShelf.cards self.old.shelf) (W.ReadableShelf.blocks self.old.shelf) self.old.tag C.Checksum.marked C.Checksum.meaning) (W.ReadableShelf.holds self.old.shelf) (slots_in self.old.states) self.old.tally address owner switch.now.mending found.old rebuilt.old findings.old) (W.WritableShelf.conduct self.old.shelf) (W.WritableShelf.conduct self.new.shelf) result found.new rebuilt.new findings.new self.new.tally }
-        ensures cards { W.ReadableShelf.cards self.new.shelf ≡ W.ReadableShelf.cards self.old.shelf }
-        ensures blocks { W.ReadableShelf.blocks self.new.shelf ≡ W.ReadableShelf.blocks self.old.shelf }
+        ensures done { ReadDone (read_call (setup_on (W.cards self.old.shelf) (W.blocks self.old.shelf) self.old.tag C.marked C.meaning) (W.holds self.old.shelf) (slots_in self.old.states) self.old.tally address owner switch.now.mending found.old rebuilt.old findings.old) (W.conduct self.old.shelf) (W.conduct self.new.shelf) result found.new rebuilt.new findings.new self.new.tally }
+        ensures cards { W.cards self.new.shelf ≡ W.cards self.old.shelf }
+        ensures blocks { W.blocks self.new.shelf ≡ W.blocks self.old.shelf }
         ensures tag { self.new.tag ≡ self.old.tag }
         ensures states { self.new.states ≡ self.old.states }
         ensures cursor { self.new.cursor ≡ self.old.cursor }
@@ -64,9 +64,9 @@ impl<W: WritableShelf, C: Checksum> Array<W, C> {
         way: Way,
         findings: &mut [Finding; 8],
     ) -> Result<WriteAnswer, Refusal>
-        ensures done { WriteDone (write_call (setup_on (W.ReadableShelf.cards self.old.shelf) (W.ReadableShelf.blocks self.old.shelf) self.old.tag C.Checksum.marked C.Checksum.meaning) (W.ReadableShelf.holds self.old.shelf) (slots_in self.old.states) address payload.now owner way findings.old) (W.WritableShelf.conduct self.old.shelf) (W.WritableShelf.conduct self.new.shelf) result findings.new }
-        ensures cards { W.ReadableShelf.cards self.new.shelf ≡ W.ReadableShelf.cards self.old.shelf }
-        ensures blocks { W.ReadableShelf.blocks self.new.shelf ≡ W.ReadableShelf.blocks self.old.shelf }
+        ensures done { WriteDone (write_call (setup_on (W.cards self.old.shelf) (W.blocks self.old.shelf) self.old.tag C.marked C.meaning) (W.holds self.old.shelf) (slots_in self.old.states) address payload.now owner way findings.old) (W.conduct self.old.shelf) (W.conduct self.new.shelf) result findings.new }
+        ensures cards { W.cards self.new.shelf ≡ W.cards self.old.shelf }
+        ensures blocks { W.blocks self.new.shelf ≡ W.blocks self.old.shelf }
         ensures tag { self.new.tag ≡ self.old.tag }
         ensures states { self.new.states ≡ self.old.states }
         ensures cursor { self.new.cursor ≡ self.old.cursor }
@@ -92,10 +92,10 @@ impl<W: WritableShelf, C: Checksum> Array<W, C> {
         stripes: u32,
         findings: &mut [Finding; 8],
     ) -> Result<ScrubCounts, Refusal>
-        ensures answer { result ≡ scrub_answer (setup_on (W.ReadableShelf.cards self.old.shelf) (W.ReadableShelf.blocks self.old.shelf) self.old.tag C.Checksum.marked C.Checksum.meaning) (W.WritableShelf.conduct self.old.shelf) (slots_in self.old.states) self.old.cursor stripes findings.old }
-        ensures done { ScrubDone (scrub_end (setup_on (W.ReadableShelf.cards self.old.shelf) (W.ReadableShelf.blocks self.old.shelf) self.old.tag C.Checksum.marked C.Checksum.meaning) (W.WritableShelf.conduct self.old.shelf) (slots_in self.old.states) self.old.cursor stripes findings.old) (W.WritableShelf.conduct self.new.shelf) self.new.cursor findings.new }
-        ensures cards { W.ReadableShelf.cards self.new.shelf ≡ W.ReadableShelf.cards self.old.shelf }
-        ensures blocks { W.ReadableShelf.blocks self.new.shelf ≡ W.ReadableShelf.blocks self.old.shelf }
+        ensures answer { result ≡ scrub_answer (setup_on (W.cards self.old.shelf) (W.blocks self.old.shelf) self.old.tag C.marked C.meaning) (W.conduct self.old.shelf) (slots_in self.old.states) self.old.cursor stripes findings.old }
+        ensures done { ScrubDone (scrub_end (setup_on (W.cards self.old.shelf) (W.blocks self.old.shelf) self.old.tag C.marked C.meaning) (W.conduct self.old.shelf) (slots_in self.old.states) self.old.cursor stripes findings.old) (W.conduct self.new.shelf) self.new.cursor findings.new }
+        ensures cards { W.cards self.new.shelf ≡ W.cards self.old.shelf }
+        ensures blocks { W.blocks self.new.shelf ≡ W.blocks self.old.shelf }
         ensures tag { self.new.tag ≡ self.old.tag }
         ensures states { self.new.states ≡ self.old.states }
         ensures tally { self.new.tally ≡ self.old.tally }
@@ -113,10 +113,10 @@ impl<W: WritableShelf, C: Checksum> Array<W, C> {
 
     // Rebuilds at most so many stripes of the job's slot, from where it stands.
     pub fn rebuild(&mut self, job: &RebuildJob, stripes: u32) -> Result<RebuildCounts, Refusal>
-        ensures answer { result ≡ rebuild_answer (setup_on (W.ReadableShelf.cards self.old.shelf) (W.ReadableShelf.blocks self.old.shelf) self.old.tag C.Checksum.marked C.Checksum.meaning) (W.WritableShelf.conduct self.old.shelf) (slots_in self.old.states) job.now.slot stripes }
-        ensures done { RebuildDone (rebuild_end (setup_on (W.ReadableShelf.cards self.old.shelf) (W.ReadableShelf.blocks self.old.shelf) self.old.tag C.Checksum.marked C.Checksum.meaning) (W.WritableShelf.conduct self.old.shelf) (slots_in self.old.states) job.now.slot stripes) (W.WritableShelf.conduct self.new.shelf) (slots_in self.new.states) }
-        ensures cards { W.ReadableShelf.cards self.new.shelf ≡ W.ReadableShelf.cards self.old.shelf }
-        ensures blocks { W.ReadableShelf.blocks self.new.shelf ≡ W.ReadableShelf.blocks self.old.shelf }
+        ensures answer { result ≡ rebuild_answer (setup_on (W.cards self.old.shelf) (W.blocks self.old.shelf) self.old.tag C.marked C.meaning) (W.conduct self.old.shelf) (slots_in self.old.states) job.now.slot stripes }
+        ensures done { RebuildDone (rebuild_end (setup_on (W.cards self.old.shelf) (W.blocks self.old.shelf) self.old.tag C.marked C.meaning) (W.conduct self.old.shelf) (slots_in self.old.states) job.now.slot stripes) (W.conduct self.new.shelf) (slots_in self.new.states) }
+        ensures cards { W.cards self.new.shelf ≡ W.cards self.old.shelf }
+        ensures blocks { W.blocks self.new.shelf ≡ W.blocks self.old.shelf }
         ensures tag { self.new.tag ≡ self.old.tag }
         ensures cursor { self.new.cursor ≡ self.old.cursor }
         ensures tally { self.new.tally ≡ self.old.tally }
@@ -141,7 +141,7 @@ impl<W: WritableShelf, C: Checksum> Array<W, C> {
         switch: &mut Switch,
         out: &mut [u8],
     ) -> Result<LookAnswer, Refusal>
-        ensures done { LookDone (look_call (setup_on (W.ReadableShelf.cards self.old.shelf) (W.ReadableShelf.blocks self.old.shelf) self.old.tag C.Checksum.marked C.Checksum.meaning) (W.ReadableShelf.holds self.old.shelf) (slots_in self.old.states) self.old.tally first count owner out.old) result out.new self.new.tally }
+        ensures done { LookDone (look_call (setup_on (W.cards self.old.shelf) (W.blocks self.old.shelf) self.old.tag C.marked C.meaning) (W.holds self.old.shelf) (slots_in self.old.states) self.old.tally first count owner out.old) result out.new self.new.tally }
         ensures switch { switch.new ≡ switch.old }
         ensures shelf { self.new.shelf ≡ self.old.shelf }
         ensures tag { self.new.tag ≡ self.old.tag }

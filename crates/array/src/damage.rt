@@ -14,8 +14,8 @@ impl<W: WritableShelf, C: Checksum> Array<FaultLayer<W>, C> {
     // Plans a fault for a write to the place, after the plans that are there. What is out of range is
     // refused first, then a full table.
     pub fn lay(&mut self, slot: u32, block: u32, plan: Plan) -> Result<(), Refusal>
-        ensures answer { result ≡ lay_answer tt (W.ReadableShelf.cards self.old.shelf.shelf) (W.ReadableShelf.blocks self.old.shelf.shelf) (rows_of self.old.shelf.table) slot block plan }
-        ensures rows { rows_of self.new.shelf.table ≡ lay_rows (W.ReadableShelf.cards self.old.shelf.shelf) (W.ReadableShelf.blocks self.old.shelf.shelf) (rows_of self.old.shelf.table) slot block plan }
+        ensures answer { result ≡ lay_answer tt (W.cards self.old.shelf.shelf) (W.blocks self.old.shelf.shelf) (rows_of self.old.shelf.table) slot block plan }
+        ensures rows { rows_of self.new.shelf.table ≡ lay_rows (W.cards self.old.shelf.shelf) (W.blocks self.old.shelf.shelf) (rows_of self.old.shelf.table) slot block plan }
         ensures below { self.new.shelf.shelf ≡ self.old.shelf.shelf }
         ensures tag { self.new.tag ≡ self.old.tag }
         ensures states { self.new.states ≡ self.old.states }
@@ -27,8 +27,8 @@ impl<W: WritableShelf, C: Checksum> Array<FaultLayer<W>, C> {
 
     // Marks the place: it is blind until a write is passed to it. A second mark takes no row.
     pub fn blind(&mut self, slot: u32, block: u32) -> Result<(), Refusal>
-        ensures answer { result ≡ blind_answer tt (W.ReadableShelf.cards self.old.shelf.shelf) (W.ReadableShelf.blocks self.old.shelf.shelf) (rows_of self.old.shelf.table) slot block }
-        ensures rows { rows_of self.new.shelf.table ≡ blind_rows (W.ReadableShelf.cards self.old.shelf.shelf) (W.ReadableShelf.blocks self.old.shelf.shelf) (rows_of self.old.shelf.table) slot block }
+        ensures answer { result ≡ blind_answer tt (W.cards self.old.shelf.shelf) (W.blocks self.old.shelf.shelf) (rows_of self.old.shelf.table) slot block }
+        ensures rows { rows_of self.new.shelf.table ≡ blind_rows (W.cards self.old.shelf.shelf) (W.blocks self.old.shelf.shelf) (rows_of self.old.shelf.table) slot block }
         ensures below { self.new.shelf.shelf ≡ self.old.shelf.shelf }
         ensures tag { self.new.tag ≡ self.old.tag }
         ensures states { self.new.states ≡ self.old.states }
@@ -40,11 +40,11 @@ impl<W: WritableShelf, C: Checksum> Array<FaultLayer<W>, C> {
 
     // Flips the bits of the mask in one byte of a place; a blind place stays as it is. No plan is used.
     pub fn flip(&mut self, slot: u32, block: u32, index: u32, mask: u32) -> Result<(), Refusal>
-        ensures answer { result ≡ flip_answer tt (W.ReadableShelf.cards self.old.shelf.shelf) (W.ReadableShelf.blocks self.old.shelf.shelf) slot block index mask }
-        ensures below { W.WritableShelf.conduct self.new.shelf.shelf ≡ after_all (W.WritableShelf.conduct self.old.shelf.shelf) (flip_writes (W.ReadableShelf.cards self.old.shelf.shelf) (W.ReadableShelf.blocks self.old.shelf.shelf) (W.ReadableShelf.holds self.old.shelf.shelf) (rows_of self.old.shelf.table) slot block index mask) }
+        ensures answer { result ≡ flip_answer tt (W.cards self.old.shelf.shelf) (W.blocks self.old.shelf.shelf) slot block index mask }
+        ensures below { W.conduct self.new.shelf.shelf ≡ after_all (W.conduct self.old.shelf.shelf) (flip_writes (W.cards self.old.shelf.shelf) (W.blocks self.old.shelf.shelf) (W.holds self.old.shelf.shelf) (rows_of self.old.shelf.table) slot block index mask) }
         ensures table { self.new.shelf.table ≡ self.old.shelf.table }
-        ensures cards { W.ReadableShelf.cards self.new.shelf.shelf ≡ W.ReadableShelf.cards self.old.shelf.shelf }
-        ensures blocks { W.ReadableShelf.blocks self.new.shelf.shelf ≡ W.ReadableShelf.blocks self.old.shelf.shelf }
+        ensures cards { W.cards self.new.shelf.shelf ≡ W.cards self.old.shelf.shelf }
+        ensures blocks { W.blocks self.new.shelf.shelf ≡ W.blocks self.old.shelf.shelf }
         ensures tag { self.new.tag ≡ self.old.tag }
         ensures states { self.new.states ≡ self.old.states }
         ensures cursor { self.new.cursor ≡ self.old.cursor }

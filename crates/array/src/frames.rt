@@ -12,10 +12,10 @@ use stripe::frame_of;
 impl<W: WritableShelf, C: Checksum> Array<W, C> {
     // The data blocks of a stripe, the blocks of a card and the tag, from the shelf.
     pub(crate) fn own_frame(&self) -> Frame
-        ensures width { result.width + 1 ≡ W.ReadableShelf.cards self.now.shelf }
-        ensures blocks { result.blocks ≡ W.ReadableShelf.blocks self.now.shelf }
+        ensures width { result.width + 1 ≡ W.cards self.now.shelf }
+        ensures blocks { result.blocks ≡ W.blocks self.now.shelf }
         ensures tag { result.tag ≡ self.now.tag }
-        ensures setup { setup result C.Checksum.marked C.Checksum.meaning ≡ setup_on (W.ReadableShelf.cards self.now.shelf) (W.ReadableShelf.blocks self.now.shelf) self.now.tag C.Checksum.marked C.Checksum.meaning }
+        ensures setup { setup result C.marked C.meaning ≡ setup_on (W.cards self.now.shelf) (W.blocks self.now.shelf) self.now.tag C.marked C.meaning }
     {
         frame_of(&self.shelf, self.tag)
     }

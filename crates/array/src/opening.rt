@@ -90,7 +90,7 @@ impl<W: WritableShelf, C: Checksum> Array<W, C> {
 
     // The state of a slot. A slot that the shelf has not is refused.
     pub fn slot_state(&self, slot: u32) -> Result<SlotState, Refusal>
-        ensures { result ≡ state_answer (W.ReadableShelf.cards self.now.shelf) (slots_in self.now.states) slot }
+        ensures { result ≡ state_answer (W.cards self.now.shelf) (slots_in self.now.states) slot }
     {
         if slot < self.shelf.card_count() {
             Ok(state_at(&self.states, slot))

@@ -47,13 +47,13 @@ impl<W: WritableShelf> Counted<W> {
 }
 
 impl<W: WritableShelf> ReadableShelf for Counted<W> {
-    ghost cards = { λ s. W.ReadableShelf.cards s.shelf };
+    ghost cards = { λ s. W.cards s.shelf };
 
-    ghost blocks = { λ s. W.ReadableShelf.blocks s.shelf };
+    ghost blocks = { λ s. W.blocks s.shelf };
 
-    ghost holds = { λ s. W.ReadableShelf.holds s.shelf };
+    ghost holds = { λ s. W.holds s.shelf };
 
-    ghost sized = { λ s. W.ReadableShelf.sized s.shelf };
+    ghost sized = { λ s. W.sized s.shelf };
 
     fn card_count(&self) -> u32 {
         self.shelf.card_count()
@@ -69,9 +69,9 @@ impl<W: WritableShelf> ReadableShelf for Counted<W> {
 }
 
 impl<W: WritableShelf> WritableShelf for Counted<W> {
-    ghost content = { λ s. W.WritableShelf.content s.shelf };
+    ghost content = { λ s. W.content s.shelf };
 
-    ghost conduct = { λ s. W.WritableShelf.conduct s.shelf };
+    ghost conduct = { λ s. W.conduct s.shelf };
 
     ghost starts = { Prim.search rules };
 
@@ -82,12 +82,12 @@ impl<W: WritableShelf> WritableShelf for Counted<W> {
     // The last clause is this layer's own: an accepted write is counted, a refused one is not. A method that promises more than
     // its trait repeats the trait's clauses, here the first six.
     fn write(&mut self, slot: u32, block: u32, bytes: &[u8]) -> Result<(), Refusal>
-        ensures answer { result ≡ write_answer tt (W.ReadableShelf.cards self.old.shelf) (W.ReadableShelf.blocks self.old.shelf) slot block (length bytes.now) }
-        ensures wrote { W.WritableShelf.conduct self.new.shelf ≡ after_all (W.WritableShelf.conduct self.old.shelf) (writes_taken (W.ReadableShelf.cards self.old.shelf) (W.ReadableShelf.blocks self.old.shelf) slot block bytes.now) }
-        ensures cards { W.ReadableShelf.cards self.new.shelf ≡ W.ReadableShelf.cards self.old.shelf }
-        ensures blocks { W.ReadableShelf.blocks self.new.shelf ≡ W.ReadableShelf.blocks self.old.shelf }
-        ensures before { W.WritableShelf.content self.old.shelf ≡ W.ReadableShelf.holds self.old.shelf }
-        ensures then { W.WritableShelf.content self.new.shelf ≡ W.ReadableShelf.holds self.new.shelf }
+        ensures answer { result ≡ write_answer tt (W.cards self.old.shelf) (W.blocks self.old.shelf) slot block (length bytes.now) }
+        ensures wrote { W.conduct self.new.shelf ≡ after_all (W.conduct self.old.shelf) (writes_taken (W.cards self.old.shelf) (W.blocks self.old.shelf) slot block bytes.now) }
+        ensures cards { W.cards self.new.shelf ≡ W.cards self.old.shelf }
+        ensures blocks { W.blocks self.new.shelf ≡ W.blocks self.old.shelf }
+        ensures before { W.content self.old.shelf ≡ W.holds self.old.shelf }
+        ensures then { W.content self.new.shelf ≡ W.holds self.new.shelf }
         ensures counted { self.new.count ≡ count_after result self.old.count }
     {
         self.shelf.write(slot, block, bytes)?;

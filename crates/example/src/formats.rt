@@ -19,8 +19,8 @@ pub fn format_counted<W: WritableShelf>(
     shelf: W,
     tag: u32,
 ) -> Result<Array<Counted<W>, PlainSum>, RefusedShelf<Counted<W>>>
-    ensures answer { MatchResult result (λ a. (1 ≤ tag) × (W.WritableShelf.conduct a.shelf.shelf ≡ after_all (W.WritableShelf.conduct shelf) (format_writes (setup_on (W.ReadableShelf.cards shelf) (W.ReadableShelf.blocks shelf) tag 3 plain))) × (W.ReadableShelf.cards a.shelf.shelf ≡ W.ReadableShelf.cards shelf) × (W.ReadableShelf.blocks a.shelf.shelf ≡ W.ReadableShelf.blocks shelf) × (a.tag ≡ tag) × (slots_in a.states ≡ all_in) × (a.cursor ≡ 0) × (a.tally ≡ 0)) (λ e. (tag ≡ 0) × (e.refusal ≡ Refusal.Shape) × (e.shelf.shelf ≡ shelf) × (e.shelf.count ≡ 0)) }
-    ensures law { IfOk result (λ a. FormatLaw (setup_on (W.ReadableShelf.cards shelf) (W.ReadableShelf.blocks shelf) tag 3 plain) (W.WritableShelf.conduct a.shelf.shelf)) }
+    ensures answer { MatchResult result (λ a. (1 ≤ tag) × (W.conduct a.shelf.shelf ≡ after_all (W.conduct shelf) (format_writes (setup_on (W.cards shelf) (W.blocks shelf) tag 3 plain))) × (W.cards a.shelf.shelf ≡ W.cards shelf) × (W.blocks a.shelf.shelf ≡ W.blocks shelf) × (a.tag ≡ tag) × (slots_in a.states ≡ all_in) × (a.cursor ≡ 0) × (a.tally ≡ 0)) (λ e. (tag ≡ 0) × (e.refusal ≡ Refusal.Shape) × (e.shelf.shelf ≡ shelf) × (e.shelf.count ≡ 0)) }
+    ensures law { IfOk result (λ a. FormatLaw (setup_on (W.cards shelf) (W.blocks shelf) tag 3 plain) (W.conduct a.shelf.shelf)) }
 {
     Array::format(Counted::over(shelf), tag)
 }

@@ -56,7 +56,7 @@ impl<W> FaultLayer<W> {
 impl<W: WritableShelf> FaultLayer<W> {
     // The shelf has the place.
     fn has(&self, slot: u32, block: u32) -> bool
-        ensures { result ≡ inside (W.ReadableShelf.cards self.now.shelf) (W.ReadableShelf.blocks self.now.shelf) slot block }
+        ensures { result ≡ inside (W.cards self.now.shelf) (W.blocks self.now.shelf) slot block }
     {
         slot < self.shelf.card_count() && block < self.shelf.block_count()
     }
@@ -64,8 +64,8 @@ impl<W: WritableShelf> FaultLayer<W> {
     // Plans a fault for a write to the place, after the plans that are there. What is out of range is
     // refused first, then a full table.
     pub fn lay(&mut self, slot: u32, block: u32, plan: Plan) -> Result<(), Refusal>
-        ensures answer { result ≡ lay_answer tt (W.ReadableShelf.cards self.old.shelf) (W.ReadableShelf.blocks self.old.shelf) (rows_of self.old.table) slot block plan }
-        ensures rows { rows_of self.new.table ≡ lay_rows (W.ReadableShelf.cards self.old.shelf) (W.ReadableShelf.blocks self.old.shelf) (rows_of self.old.table) slot block plan }
+        ensures answer { result ≡ lay_answer tt (W.cards self.old.shelf) (W.blocks self.old.shelf) (rows_of self.old.table) slot block plan }
+        ensures rows { rows_of self.new.table ≡ lay_rows (W.cards self.old.shelf) (W.blocks self.old.shelf) (rows_of self.old.table) slot block plan }
         ensures shelf { self.new.shelf ≡ self.old.shelf }
     {
         if self.has(slot, block) && plan.fits(block, self.shelf.block_count()) {
@@ -77,8 +77,8 @@ impl<W: WritableShelf> FaultLayer<W> {
 
     // Marks the place: it is blind until a write is passed to it. A second mark takes no row.
     pub fn blind(&mut self, slot: u32, block: u32) -> Result<(), Refusal>
-        ensures answer { result ≡ blind_answer tt (W.ReadableShelf.cards self.old.shelf) (W.ReadableShelf.blocks self.old.shelf) (rows_of self.old.table) slot block }
-        ensures rows { rows_of self.new.table ≡ blind_rows (W.ReadableShelf.cards self.old.shelf) (W.ReadableShelf.blocks self.old.shelf) (rows_of self.old.table) slot block }
+        ensures answer { result ≡ blind_answer tt (W.cards self.old.shelf) (W.blocks self.old.shelf) (rows_of self.old.table) slot block }
+        ensures rows { rows_of self.new.table ≡ blind_rows (W.cards self.old.shelf) (W.blocks self.old.shelf) (rows_of self.old.table) slot block }
         ensures shelf { self.new.shelf ≡ self.old.shelf }
     {
         if !self.has(slot, block) {
@@ -92,9 +92,9 @@ impl<W: WritableShelf> FaultLayer<W> {
 
     // What the layer shows of a place that the shelf has.
     fn shown(&self, slot: u32, block: u32) -> Cell
-        requires slot_within { slot < W.ReadableShelf.cards self.now.shelf }
-        requires block_within { block < W.ReadableShelf.blocks self.now.shelf }
-        ensures { result ≡ screened (rows_of self.now.table) (W.ReadableShelf.holds self.now.shelf) slot block }
+        requires slot_within { slot < W.cards self.now.shelf }
+        requires block_within { block < W.blocks self.now.shelf }
+        ensures { result ≡ screened (rows_of self.now.table) (W.holds self.now.shelf) slot block }
     {
         if self.table.is_marked(slot, block) {
             Cell::Nothing
@@ -105,11 +105,11 @@ impl<W: WritableShelf> FaultLayer<W> {
 
     // Flips the bits of the mask in one byte of a place; a blind place stays as it is. No plan is used.
     pub fn flip(&mut self, slot: u32, block: u32, index: u32, mask: u32) -> Result<(), Refusal>
-        ensures answer { result ≡ flip_answer tt (W.ReadableShelf.cards self.old.shelf) (W.ReadableShelf.blocks self.old.shelf) slot block index mask }
-        ensures below { W.WritableShelf.conduct self.new.shelf ≡ after_all (W.WritableShelf.conduct self.old.shelf) (flip_writes (W.ReadableShelf.cards self.old.shelf) (W.ReadableShelf.blocks self.old.shelf) (W.ReadableShelf.holds self.old.shelf) (rows_of self.old.table) slot block index mask) }
+        ensures answer { result ≡ flip_answer tt (W.cards self.old.shelf) (W.blocks self.old.shelf) slot block index mask }
+        ensures below { W.conduct self.new.shelf ≡ after_all (W.conduct self.old.shelf) (flip_writes (W.cards self.old.shelf) (W.blocks self.old.shelf) (W.holds self.old.shelf) (rows_of self.old.table) slot block index mask) }
         ensures table { self.new.table ≡ self.old.table }
-        ensures cards { W.ReadableShelf.cards self.new.shelf ≡ W.ReadableShelf.cards self.old.shelf }
-        ensures blocks { W.ReadableShelf.blocks self.new.shelf ≡ W.ReadableShelf.blocks self.old.shelf }
+        ensures cards { W.cards self.new.shelf ≡ W.cards self.old.shelf }
+        ensures blocks { W.blocks self.new.shelf ≡ W.blocks self.old.shelf }
     {
         if !(self.has(slot, block) && index <= 127 && mask >= 1 && mask <= 255) {
             return Err(Refusal::Place);
@@ -127,13 +127,13 @@ impl<W: WritableShelf> FaultLayer<W> {
 
     // Hands down the first bytes of a write, with the old rest; nothing to a blind place.
     fn tear(&mut self, slot: u32, block: u32, bytes: &[u8], kept: u32)
-        requires slot_within { slot < W.ReadableShelf.cards self.old.shelf }
-        requires block_within { block < W.ReadableShelf.blocks self.old.shelf }
+        requires slot_within { slot < W.cards self.old.shelf }
+        requires block_within { block < W.blocks self.old.shelf }
         requires whole { length bytes.now ≡ 128 }
-        ensures below { W.WritableShelf.conduct self.new.shelf ≡ after_all (W.WritableShelf.conduct self.old.shelf) (torn_writes slot block kept bytes.now (screened (rows_of self.old.table) (W.ReadableShelf.holds self.old.shelf) slot block)) }
+        ensures below { W.conduct self.new.shelf ≡ after_all (W.conduct self.old.shelf) (torn_writes slot block kept bytes.now (screened (rows_of self.old.table) (W.holds self.old.shelf) slot block)) }
         ensures table { self.new.table ≡ self.old.table }
-        ensures cards { W.ReadableShelf.cards self.new.shelf ≡ W.ReadableShelf.cards self.old.shelf }
-        ensures blocks { W.ReadableShelf.blocks self.new.shelf ≡ W.ReadableShelf.blocks self.old.shelf }
+        ensures cards { W.cards self.new.shelf ≡ W.cards self.old.shelf }
+        ensures blocks { W.blocks self.new.shelf ≡ W.blocks self.old.shelf }
     {
         if let Cell::Bytes(old) = self.shown(slot, block) {
             store(&mut self.shelf, slot, block, &torn_block(kept, bytes, old));
@@ -142,13 +142,13 @@ impl<W: WritableShelf> FaultLayer<W> {
 
     // Hands down what the plan makes of a write.
     fn carry_out(&mut self, slot: u32, block: u32, bytes: &[u8], plan: Plan)
-        requires slot_within { slot < W.ReadableShelf.cards self.old.shelf }
-        requires block_within { block < W.ReadableShelf.blocks self.old.shelf }
+        requires slot_within { slot < W.cards self.old.shelf }
+        requires block_within { block < W.blocks self.old.shelf }
         requires whole { length bytes.now ≡ 128 }
-        ensures below { W.WritableShelf.conduct self.new.shelf ≡ after_all (W.WritableShelf.conduct self.old.shelf) (planned_writes (W.ReadableShelf.cards self.old.shelf) (W.ReadableShelf.blocks self.old.shelf) (W.ReadableShelf.holds self.old.shelf) (rows_of self.old.table) (write_of slot block bytes.now) plan) }
+        ensures below { W.conduct self.new.shelf ≡ after_all (W.conduct self.old.shelf) (planned_writes (W.cards self.old.shelf) (W.blocks self.old.shelf) (W.holds self.old.shelf) (rows_of self.old.table) (write_of slot block bytes.now) plan) }
         ensures table { self.new.table ≡ self.old.table }
-        ensures cards { W.ReadableShelf.cards self.new.shelf ≡ W.ReadableShelf.cards self.old.shelf }
-        ensures blocks { W.ReadableShelf.blocks self.new.shelf ≡ W.ReadableShelf.blocks self.old.shelf }
+        ensures cards { W.cards self.new.shelf ≡ W.cards self.old.shelf }
+        ensures blocks { W.blocks self.new.shelf ≡ W.blocks self.old.shelf }
     {
         match plan {
             Plan::Lose => {}
@@ -162,13 +162,13 @@ impl<W: WritableShelf> FaultLayer<W> {
 
     // Hands down what the plan makes of a write; the write itself where there is no plan.
     fn hand_down(&mut self, slot: u32, block: u32, bytes: &[u8], found: Option<Found>)
-        requires slot_within { slot < W.ReadableShelf.cards self.old.shelf }
-        requires block_within { block < W.ReadableShelf.blocks self.old.shelf }
+        requires slot_within { slot < W.cards self.old.shelf }
+        requires block_within { block < W.blocks self.old.shelf }
         requires whole { length bytes.now ≡ 128 }
-        ensures below { W.WritableShelf.conduct self.new.shelf ≡ after_all (W.WritableShelf.conduct self.old.shelf) (writes_by (W.ReadableShelf.cards self.old.shelf) (W.ReadableShelf.blocks self.old.shelf) (W.ReadableShelf.holds self.old.shelf) (rows_of self.old.table) (write_of slot block bytes.now) found) }
+        ensures below { W.conduct self.new.shelf ≡ after_all (W.conduct self.old.shelf) (writes_by (W.cards self.old.shelf) (W.blocks self.old.shelf) (W.holds self.old.shelf) (rows_of self.old.table) (write_of slot block bytes.now) found) }
         ensures table { self.new.table ≡ self.old.table }
-        ensures cards { W.ReadableShelf.cards self.new.shelf ≡ W.ReadableShelf.cards self.old.shelf }
-        ensures blocks { W.ReadableShelf.blocks self.new.shelf ≡ W.ReadableShelf.blocks self.old.shelf }
+        ensures cards { W.cards self.new.shelf ≡ W.cards self.old.shelf }
+        ensures blocks { W.blocks self.new.shelf ≡ W.blocks self.old.shelf }
     {
         match found {
             Some(planned) => self.carry_out(slot, block, bytes, planned.plan),
@@ -180,13 +180,13 @@ impl<W: WritableShelf> FaultLayer<W> {
 
     // The write of a whole block to a place that the shelf has, by the earliest plan for the place.
     fn write_by_plan(&mut self, slot: u32, block: u32, bytes: &[u8])
-        requires slot_within { slot < W.ReadableShelf.cards self.old.shelf }
-        requires block_within { block < W.ReadableShelf.blocks self.old.shelf }
+        requires slot_within { slot < W.cards self.old.shelf }
+        requires block_within { block < W.blocks self.old.shelf }
         requires whole { length bytes.now ≡ 128 }
-        ensures below { W.WritableShelf.conduct self.new.shelf ≡ after_all (W.WritableShelf.conduct self.old.shelf) (writes_by (W.ReadableShelf.cards self.old.shelf) (W.ReadableShelf.blocks self.old.shelf) (W.ReadableShelf.holds self.old.shelf) (rows_of self.old.table) (write_of slot block bytes.now) (plan_for slot block (rows_of self.old.table))) }
+        ensures below { W.conduct self.new.shelf ≡ after_all (W.conduct self.old.shelf) (writes_by (W.cards self.old.shelf) (W.blocks self.old.shelf) (W.holds self.old.shelf) (rows_of self.old.table) (write_of slot block bytes.now) (plan_for slot block (rows_of self.old.table))) }
         ensures rows { rows_of self.new.table ≡ rows_by (rows_of self.old.table) slot block (plan_for slot block (rows_of self.old.table)) }
-        ensures cards { W.ReadableShelf.cards self.new.shelf ≡ W.ReadableShelf.cards self.old.shelf }
-        ensures blocks { W.ReadableShelf.blocks self.new.shelf ≡ W.ReadableShelf.blocks self.old.shelf }
+        ensures cards { W.cards self.new.shelf ≡ W.cards self.old.shelf }
+        ensures blocks { W.blocks self.new.shelf ≡ W.blocks self.old.shelf }
     {
         let found = self.table.plan_for(slot, block);
         self.hand_down(slot, block, bytes, found);
@@ -195,11 +195,11 @@ impl<W: WritableShelf> FaultLayer<W> {
 
     // A write through the layer. A refused write uses no plan.
     fn write_through(&mut self, slot: u32, block: u32, bytes: &[u8]) -> Result<(), Refusal>
-        ensures answer { result ≡ write_answer tt (W.ReadableShelf.cards self.old.shelf) (W.ReadableShelf.blocks self.old.shelf) slot block (length bytes.now) }
-        ensures below { W.WritableShelf.conduct self.new.shelf ≡ after_all (W.WritableShelf.conduct self.old.shelf) (passed (W.ReadableShelf.cards self.old.shelf) (W.ReadableShelf.blocks self.old.shelf) (W.ReadableShelf.holds self.old.shelf) (rows_of self.old.table) (write_of slot block bytes.now)) }
-        ensures rows { rows_of self.new.table ≡ rows_after (W.ReadableShelf.cards self.old.shelf) (W.ReadableShelf.blocks self.old.shelf) (rows_of self.old.table) (write_of slot block bytes.now) }
-        ensures cards { W.ReadableShelf.cards self.new.shelf ≡ W.ReadableShelf.cards self.old.shelf }
-        ensures blocks { W.ReadableShelf.blocks self.new.shelf ≡ W.ReadableShelf.blocks self.old.shelf }
+        ensures answer { result ≡ write_answer tt (W.cards self.old.shelf) (W.blocks self.old.shelf) slot block (length bytes.now) }
+        ensures below { W.conduct self.new.shelf ≡ after_all (W.conduct self.old.shelf) (passed (W.cards self.old.shelf) (W.blocks self.old.shelf) (W.holds self.old.shelf) (rows_of self.old.table) (write_of slot block bytes.now)) }
+        ensures rows { rows_of self.new.table ≡ rows_after (W.cards self.old.shelf) (W.blocks self.old.shelf) (rows_of self.old.table) (write_of slot block bytes.now) }
+        ensures cards { W.cards self.new.shelf ≡ W.cards self.old.shelf }
+        ensures blocks { W.blocks self.new.shelf ≡ W.blocks self.old.shelf }
     {
         if bytes.len() != 128 {
             return Err(Refusal::Length);
@@ -238,13 +238,13 @@ fn torn_block(kept: u32, bytes: &[u8], old: [u8; 128]) -> [u8; 128]
 }
 
 impl<W: WritableShelf> ReadableShelf for FaultLayer<W> {
-    ghost cards = { λ s. W.ReadableShelf.cards s.shelf };
+    ghost cards = { λ s. W.cards s.shelf };
 
-    ghost blocks = { λ s. W.ReadableShelf.blocks s.shelf };
+    ghost blocks = { λ s. W.blocks s.shelf };
 
-    ghost holds = { λ s. screened (rows_of s.table) (W.ReadableShelf.holds s.shelf) };
+    ghost holds = { λ s. screened (rows_of s.table) (W.holds s.shelf) };
 
-    ghost sized = { λ s. screened_sized _ _ (rows_of s.table) _ (W.ReadableShelf.sized s.shelf) };
+    ghost sized = { λ s. screened_sized _ _ (rows_of s.table) _ (W.sized s.shelf) };
 
     fn card_count(&self) -> u32 {
         self.shelf.card_count()
@@ -271,26 +271,26 @@ impl<W: WritableShelf> ReadableShelf for FaultLayer<W> {
 }
 
 impl<W: WritableShelf> WritableShelf for FaultLayer<W> {
-    ghost content = { λ s. screened (rows_of s.table) (W.WritableShelf.content s.shelf) };
+    ghost content = { λ s. screened (rows_of s.table) (W.content s.shelf) };
 
-    ghost conduct = { λ s. fault_conduct (W.ReadableShelf.cards s.shelf) (W.ReadableShelf.blocks s.shelf) (W.WritableShelf.conduct s.shelf) (rows_of s.table) };
+    ghost conduct = { λ s. fault_conduct (W.cards s.shelf) (W.blocks s.shelf) (W.conduct s.shelf) (rows_of s.table) };
 
     ghost starts = { Prim.search rules };
 
     ghost same = { Prim.search rules };
 
-    ghost own = { λ s. fault_own _ _ _ (rows_of s.table) (W.WritableShelf.own s.shelf) };
+    ghost own = { λ s. fault_own _ _ _ (rows_of s.table) (W.own s.shelf) };
 
     // Beside what every shelf promises: what is handed down, and the rows afterwards.
     fn write(&mut self, slot: u32, block: u32, bytes: &[u8]) -> Result<(), Refusal>
-        ensures answer { result ≡ write_answer tt (W.ReadableShelf.cards self.old.shelf) (W.ReadableShelf.blocks self.old.shelf) slot block (length bytes.now) }
-        ensures wrote { fault_conduct (W.ReadableShelf.cards self.new.shelf) (W.ReadableShelf.blocks self.new.shelf) (W.WritableShelf.conduct self.new.shelf) (rows_of self.new.table) ≡ after_all (fault_conduct (W.ReadableShelf.cards self.old.shelf) (W.ReadableShelf.blocks self.old.shelf) (W.WritableShelf.conduct self.old.shelf) (rows_of self.old.table)) (writes_taken (W.ReadableShelf.cards self.old.shelf) (W.ReadableShelf.blocks self.old.shelf) slot block bytes.now) }
-        ensures cards { W.ReadableShelf.cards self.new.shelf ≡ W.ReadableShelf.cards self.old.shelf }
-        ensures blocks { W.ReadableShelf.blocks self.new.shelf ≡ W.ReadableShelf.blocks self.old.shelf }
-        ensures before { screened (rows_of self.old.table) (W.WritableShelf.content self.old.shelf) ≡ screened (rows_of self.old.table) (W.ReadableShelf.holds self.old.shelf) }
-        ensures then { screened (rows_of self.new.table) (W.WritableShelf.content self.new.shelf) ≡ screened (rows_of self.new.table) (W.ReadableShelf.holds self.new.shelf) }
-        ensures below { W.WritableShelf.conduct self.new.shelf ≡ after_all (W.WritableShelf.conduct self.old.shelf) (passed (W.ReadableShelf.cards self.old.shelf) (W.ReadableShelf.blocks self.old.shelf) (W.ReadableShelf.holds self.old.shelf) (rows_of self.old.table) (write_of slot block bytes.now)) }
-        ensures rows { rows_of self.new.table ≡ rows_after (W.ReadableShelf.cards self.old.shelf) (W.ReadableShelf.blocks self.old.shelf) (rows_of self.old.table) (write_of slot block bytes.now) }
+        ensures answer { result ≡ write_answer tt (W.cards self.old.shelf) (W.blocks self.old.shelf) slot block (length bytes.now) }
+        ensures wrote { fault_conduct (W.cards self.new.shelf) (W.blocks self.new.shelf) (W.conduct self.new.shelf) (rows_of self.new.table) ≡ after_all (fault_conduct (W.cards self.old.shelf) (W.blocks self.old.shelf) (W.conduct self.old.shelf) (rows_of self.old.table)) (writes_taken (W.cards self.old.shelf) (W.blocks self.old.shelf) slot block bytes.now) }
+        ensures cards { W.cards self.new.shelf ≡ W.cards self.old.shelf }
+        ensures blocks { W.blocks self.new.shelf ≡ W.blocks self.old.shelf }
+        ensures before { screened (rows_of self.old.table) (W.content self.old.shelf) ≡ screened (rows_of self.old.table) (W.holds self.old.shelf) }
+        ensures then { screened (rows_of self.new.table) (W.content self.new.shelf) ≡ screened (rows_of self.new.table) (W.holds self.new.shelf) }
+        ensures below { W.conduct self.new.shelf ≡ after_all (W.conduct self.old.shelf) (passed (W.cards self.old.shelf) (W.blocks self.old.shelf) (W.holds self.old.shelf) (rows_of self.old.table) (write_of slot block bytes.now)) }
+        ensures rows { rows_of self.new.table ≡ rows_after (W.cards self.old.shelf) (W.blocks self.old.shelf) (rows_of self.old.table) (write_of slot block bytes.now) }
     {
         self.write_through(slot, block, bytes)
     }

@@ -13,12 +13,12 @@ use stripe::frame_of;
 
 // Writes one place with zero payload, owner 0 and versions 0.
 fn write_place<W: WritableShelf, C: Checksum>(shelf: &mut W, frame: Frame, slot: u32, block: u32)
-    requires cards { W.ReadableShelf.cards shelf.old ≡ frame.width + 1 }
+    requires cards { W.cards shelf.old ≡ frame.width + 1 }
     requires slot_within { slot ≤ frame.width }
-    requires block_within { block < W.ReadableShelf.blocks shelf.old }
-    ensures wrote { W.WritableShelf.conduct shelf.new ≡ after_all (W.WritableShelf.conduct shelf.old) (fresh_write (setup frame C.Checksum.marked C.Checksum.meaning) slot block ∷ []) }
-    ensures cards { W.ReadableShelf.cards shelf.new ≡ W.ReadableShelf.cards shelf.old }
-    ensures blocks { W.ReadableShelf.blocks shelf.new ≡ W.ReadableShelf.blocks shelf.old }
+    requires block_within { block < W.blocks shelf.old }
+    ensures wrote { W.conduct shelf.new ≡ after_all (W.conduct shelf.old) (fresh_write (setup frame C.marked C.meaning) slot block ∷ []) }
+    ensures cards { W.cards shelf.new ≡ W.cards shelf.old }
+    ensures blocks { W.blocks shelf.new ≡ W.blocks shelf.old }
 {
     let role = role_at(frame, block, slot);
     let payload = [0u8; 80];
@@ -29,12 +29,12 @@ fn write_place<W: WritableShelf, C: Checksum>(shelf: &mut W, frame: Frame, slot:
 
 // Writes every place of a card, in block order.
 fn write_card<W: WritableShelf, C: Checksum>(shelf: &mut W, frame: Frame, slot: u32)
-    requires cards { W.ReadableShelf.cards shelf.old ≡ frame.width + 1 }
-    requires blocks { W.ReadableShelf.blocks shelf.old ≡ frame.blocks }
+    requires cards { W.cards shelf.old ≡ frame.width + 1 }
+    requires blocks { W.blocks shelf.old ≡ frame.blocks }
     requires slot_within { slot ≤ frame.width }
-    ensures wrote { W.WritableShelf.conduct shelf.new ≡ after_all (W.WritableShelf.conduct shelf.old) (card_writes (setup frame C.Checksum.marked C.Checksum.meaning) slot frame.blocks) }
-    ensures cards { W.ReadableShelf.cards shelf.new ≡ W.ReadableShelf.cards shelf.old }
-    ensures blocks { W.ReadableShelf.blocks shelf.new ≡ W.ReadableShelf.blocks shelf.old }
+    ensures wrote { W.conduct shelf.new ≡ after_all (W.conduct shelf.old) (card_writes (setup frame C.marked C.meaning) slot frame.blocks) }
+    ensures cards { W.cards shelf.new ≡ W.cards shelf.old }
+    ensures blocks { W.blocks shelf.new ≡ W.blocks shelf.old }
 {
     for block in 0..frame.blocks {
         write_place::<W, C>(shelf, frame, slot, block);
@@ -43,11 +43,11 @@ fn write_card<W: WritableShelf, C: Checksum>(shelf: &mut W, frame: Frame, slot: 
 
 // Writes every place, in slot and block order.
 fn write_cards<W: WritableShelf, C: Checksum>(shelf: &mut W, frame: Frame)
-    requires cards { W.ReadableShelf.cards shelf.old ≡ frame.width + 1 }
-    requires blocks { W.ReadableShelf.blocks shelf.old ≡ frame.blocks }
-    ensures wrote { W.WritableShelf.conduct shelf.new ≡ after_all (W.WritableShelf.conduct shelf.old) (format_writes (setup frame C.Checksum.marked C.Checksum.meaning)) }
-    ensures cards { W.ReadableShelf.cards shelf.new ≡ W.ReadableShelf.cards shelf.old }
-    ensures blocks { W.ReadableShelf.blocks shelf.new ≡ W.ReadableShelf.blocks shelf.old }
+    requires cards { W.cards shelf.old ≡ frame.width + 1 }
+    requires blocks { W.blocks shelf.old ≡ frame.blocks }
+    ensures wrote { W.conduct shelf.new ≡ after_all (W.conduct shelf.old) (format_writes (setup frame C.marked C.meaning)) }
+    ensures cards { W.cards shelf.new ≡ W.cards shelf.old }
+    ensures blocks { W.blocks shelf.new ≡ W.blocks shelf.old }
 {
     for slot in 0..frame.width + 1 {
         write_card::<W, C>(shelf, frame, slot);
@@ -57,10 +57,10 @@ fn write_cards<W: WritableShelf, C: Checksum>(shelf: &mut W, frame: Frame)
 // Formats a shelf under a tag. Whatever run of calls and damage follows, the law over runs holds of it.
 pub fn format_shelf<W: WritableShelf, C: Checksum>(shelf: &mut W, tag: u32)
     requires { 1 ≤ tag }
-    ensures wrote { W.WritableShelf.conduct shelf.new ≡ after_all (W.WritableShelf.conduct shelf.old) (format_writes (setup_on (W.ReadableShelf.cards shelf.old) (W.ReadableShelf.blocks shelf.old) tag C.Checksum.marked C.Checksum.meaning)) }
-    ensures cards { W.ReadableShelf.cards shelf.new ≡ W.ReadableShelf.cards shelf.old }
-    ensures blocks { W.ReadableShelf.blocks shelf.new ≡ W.ReadableShelf.blocks shelf.old }
-    ensures law { FormatLaw (setup_on (W.ReadableShelf.cards shelf.old) (W.ReadableShelf.blocks shelf.old) tag C.Checksum.marked C.Checksum.meaning) (W.WritableShelf.conduct shelf.new) }
+    ensures wrote { W.conduct shelf.new ≡ after_all (W.conduct shelf.old) (format_writes (setup_on (W.cards shelf.old) (W.blocks shelf.old) tag C.marked C.meaning)) }
+    ensures cards { W.cards shelf.new ≡ W.cards shelf.old }
+    ensures blocks { W.blocks shelf.new ≡ W.blocks shelf.old }
+    ensures law { FormatLaw (setup_on (W.cards shelf.old) (W.blocks shelf.old) tag C.marked C.meaning) (W.conduct shelf.new) }
 {
     let frame = frame_of(shelf, tag);
     write_cards::<W, C>(shelf, frame);

@@ -56,13 +56,13 @@ pub fn apply_patch<W: WritableShelf>(
     s: u32,
     patch: Option<Patch>,
 ) -> Option<u32>
-    requires few { W.ReadableShelf.cards shelf.old ≤ 8 }
-    requires within { s < W.ReadableShelf.blocks shelf.old }
-    requires below { PatchBelow (W.ReadableShelf.cards shelf.old) patch }
+    requires few { W.cards shelf.old ≤ 8 }
+    requires within { s < W.blocks shelf.old }
+    requires below { PatchBelow (W.cards shelf.old) patch }
     ensures slot { result ≡ patched_slot (slots_in states.now) s patch }
-    ensures wrote { W.WritableShelf.conduct shelf.new ≡ after_all (W.WritableShelf.conduct shelf.old) (patch_writes (slots_in states.now) s patch) }
-    ensures cards { W.ReadableShelf.cards shelf.new ≡ W.ReadableShelf.cards shelf.old }
-    ensures blocks { W.ReadableShelf.blocks shelf.new ≡ W.ReadableShelf.blocks shelf.old }
+    ensures wrote { W.conduct shelf.new ≡ after_all (W.conduct shelf.old) (patch_writes (slots_in states.now) s patch) }
+    ensures cards { W.cards shelf.new ≡ W.cards shelf.old }
+    ensures blocks { W.blocks shelf.new ≡ W.blocks shelf.old }
 {
     match patch {
         None => None,

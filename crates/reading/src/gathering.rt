@@ -113,10 +113,10 @@ fn sight_data<R: ReadableShelf, C: Checksum>(
     s: u32,
     j: u32,
 ) -> Verdict
-    requires cards { R.ReadableShelf.cards shelf.now ≡ frame.width + 1 }
-    requires within { s < R.ReadableShelf.blocks shelf.now }
+    requires cards { R.cards shelf.now ≡ frame.width + 1 }
+    requires within { s < R.blocks shelf.now }
     requires placed { j < frame.width }
-    ensures { result ≡ view_of (setup frame C.Checksum.marked C.Checksum.meaning) (R.ReadableShelf.holds shelf.now) (slots_in states.now) s (Role.Data j) }
+    ensures { result ≡ view_of (setup frame C.marked C.meaning) (R.holds shelf.now) (slots_in states.now) s (Role.Data j) }
 {
     judge_place::<R, C>(shelf, frame, states, s, Role::Data(j))
 }
@@ -129,11 +129,11 @@ pub(crate) fn sight<R: ReadableShelf, C: Checksum>(
     s: u32,
     j: u32,
 ) -> Sighted
-    requires cards { R.ReadableShelf.cards shelf.now ≡ frame.width + 1 }
-    requires within { s < R.ReadableShelf.blocks shelf.now }
+    requires cards { R.cards shelf.now ≡ frame.width + 1 }
+    requires within { s < R.blocks shelf.now }
     requires placed { j < frame.width }
     ensures below { PatchBelow (frame.width + 1) result.gathered.patch }
-    ensures is { result ≡ sighted (setup frame C.Checksum.marked C.Checksum.meaning) s (view_of (setup frame C.Checksum.marked C.Checksum.meaning) (R.ReadableShelf.holds shelf.now) (slots_in states.now) s) j }
+    ensures is { result ≡ sighted (setup frame C.marked C.meaning) s (view_of (setup frame C.marked C.meaning) (R.holds shelf.now) (slots_in states.now) s) j }
 {
     let block = sight_data::<R, C>(shelf, frame, states, s, j);
     let parity = judge_place::<R, C>(shelf, frame, states, s, Role::Parity);
@@ -152,11 +152,11 @@ pub fn gather<R: ReadableShelf, C: Checksum>(
     s: u32,
     j: u32,
 ) -> Gathered
-    requires cards { R.ReadableShelf.cards shelf.now ≡ frame.width + 1 }
-    requires within { s < R.ReadableShelf.blocks shelf.now }
+    requires cards { R.cards shelf.now ≡ frame.width + 1 }
+    requires within { s < R.blocks shelf.now }
     requires placed { j < frame.width }
     ensures below { PatchBelow (frame.width + 1) result.patch }
-    ensures is { result ≡ gathered (setup frame C.Checksum.marked C.Checksum.meaning) s (view_of (setup frame C.Checksum.marked C.Checksum.meaning) (R.ReadableShelf.holds shelf.now) (slots_in states.now) s) j }
+    ensures is { result ≡ gathered (setup frame C.marked C.meaning) s (view_of (setup frame C.marked C.meaning) (R.holds shelf.now) (slots_in states.now) s) j }
 {
     let sighted = sight::<R, C>(shelf, frame, states, s, j);
     sighted.gathered

@@ -50,10 +50,10 @@ fn look_read<R: ReadableShelf, C: Checksum>(
     address: u32,
     owner: u32,
 ) -> Settled
-    requires cards { R.ReadableShelf.cards shelf.now ≡ frame.width + 1 }
-    requires blocks { R.ReadableShelf.blocks shelf.now ≡ frame.blocks }
+    requires cards { R.cards shelf.now ≡ frame.width + 1 }
+    requires blocks { R.blocks shelf.now ≡ frame.blocks }
     requires within { address < frame.width * frame.blocks }
-    ensures { result ≡ settled_in (look_read (setup frame C.Checksum.marked C.Checksum.meaning) (R.ReadableShelf.holds shelf.now) (slots_in states.now) owner tally address) }
+    ensures { result ≡ settled_in (look_read (setup frame C.marked C.meaning) (R.holds shelf.now) (slots_in states.now) owner tally address) }
 {
     let gathered = gather::<R, C>(
         shelf,
@@ -76,11 +76,11 @@ fn look_from<R: ReadableShelf, C: Checksum>(
     owner: u32,
     out: &mut [u8],
 ) -> LookAnswer
-    requires cards { R.ReadableShelf.cards shelf.now ≡ frame.width + 1 }
-    requires blocks { R.ReadableShelf.blocks shelf.now ≡ frame.blocks }
+    requires cards { R.cards shelf.now ≡ frame.width + 1 }
+    requires blocks { R.blocks shelf.now ≡ frame.blocks }
     requires within { first + count ≤ frame.width * frame.blocks }
     requires long { length out.old ≡ 80 * count }
-    ensures { seen_as result out.new tally.new ≡ look_from (setup frame C.Checksum.marked C.Checksum.meaning) (R.ReadableShelf.holds shelf.now) (slots_in states.now) owner count first tally.old }
+    ensures { seen_as result out.new tally.new ≡ look_from (setup frame C.marked C.meaning) (R.holds shelf.now) (slots_in states.now) owner count first tally.old }
 {
     for i in 0..count {
         let settled = look_read::<R, C>(shelf, frame, states, *tally, first + i, owner);
@@ -124,9 +124,9 @@ fn look_checked<R: ReadableShelf, C: Checksum>(
     owner: u32,
     out: &mut [u8],
 ) -> Result<LookAnswer, Refusal>
-    requires cards { R.ReadableShelf.cards shelf.now ≡ frame.width + 1 }
-    requires blocks { R.ReadableShelf.blocks shelf.now ≡ frame.blocks }
-    ensures { LookDone (look_call (setup frame C.Checksum.marked C.Checksum.meaning) (R.ReadableShelf.holds shelf.now) (slots_in states.now) tally.old first count owner out.old) result out.new tally.new }
+    requires cards { R.cards shelf.now ≡ frame.width + 1 }
+    requires blocks { R.blocks shelf.now ≡ frame.blocks }
+    ensures { LookDone (look_call (setup frame C.marked C.meaning) (R.holds shelf.now) (slots_in states.now) tally.old first count owner out.old) result out.new tally.new }
 {
     if out.len() != 80 * count as usize {
         return Err(Refusal::Length);
@@ -149,9 +149,9 @@ pub fn look_call<R: ReadableShelf, C: Checksum>(
     owner: u32,
     out: &mut [u8],
 ) -> Result<LookAnswer, Refusal>
-    requires cards { R.ReadableShelf.cards shelf.now ≡ frame.width + 1 }
-    requires blocks { R.ReadableShelf.blocks shelf.now ≡ frame.blocks }
-    ensures { LookDone (look_call (setup frame C.Checksum.marked C.Checksum.meaning) (R.ReadableShelf.holds shelf.now) (slots_in states.now) tally.old first count owner out.old) result out.new tally.new }
+    requires cards { R.cards shelf.now ≡ frame.width + 1 }
+    requires blocks { R.blocks shelf.now ≡ frame.blocks }
+    ensures { LookDone (look_call (setup frame C.marked C.meaning) (R.holds shelf.now) (slots_in states.now) tally.old first count owner out.old) result out.new tally.new }
 {
     look_checked::<R, C>(shelf, frame, states, tally, first, count, owner, out)
 }

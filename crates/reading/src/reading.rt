@@ -150,15 +150,15 @@ fn read_at<W: WritableShelf, C: Checksum>(
     rebuilt: &mut [u8],
     findings: &mut [Finding; 8],
 ) -> Result<ReadAnswer, Refusal>
-    requires cards { W.ReadableShelf.cards shelf.old ≡ frame.width + 1 }
-    requires blocks { W.ReadableShelf.blocks shelf.old ≡ frame.blocks }
+    requires cards { W.cards shelf.old ≡ frame.width + 1 }
+    requires blocks { W.blocks shelf.old ≡ frame.blocks }
     requires within { s < frame.blocks }
     requires placed { j < frame.width }
     requires found_long { length found.old ≡ 128 }
     requires rebuilt_long { length rebuilt.old ≡ 128 }
-    ensures done { ReadDone (read_at (setup frame C.Checksum.marked C.Checksum.meaning) (W.ReadableShelf.holds shelf.old) (slots_in states.now) tally.old s j asked mending) (W.WritableShelf.conduct shelf.old) (W.WritableShelf.conduct shelf.new) result found.new rebuilt.new findings.new tally.new }
-    ensures cards { W.ReadableShelf.cards shelf.new ≡ W.ReadableShelf.cards shelf.old }
-    ensures blocks { W.ReadableShelf.blocks shelf.new ≡ W.ReadableShelf.blocks shelf.old }
+    ensures done { ReadDone (read_at (setup frame C.marked C.meaning) (W.holds shelf.old) (slots_in states.now) tally.old s j asked mending) (W.conduct shelf.old) (W.conduct shelf.new) result found.new rebuilt.new findings.new tally.new }
+    ensures cards { W.cards shelf.new ≡ W.cards shelf.old }
+    ensures blocks { W.blocks shelf.new ≡ W.blocks shelf.old }
 {
     let sighted = sight::<W, C>(shelf, frame, states, s, j);
     let settled = settle(&sighted.gathered, *tally, asked);
@@ -191,11 +191,11 @@ fn read_checked<W: WritableShelf, C: Checksum>(
     rebuilt: &mut [u8],
     findings: &mut [Finding; 8],
 ) -> Result<ReadAnswer, Refusal>
-    requires cards { W.ReadableShelf.cards shelf.old ≡ frame.width + 1 }
-    requires blocks { W.ReadableShelf.blocks shelf.old ≡ frame.blocks }
-    ensures done { ReadDone (read_call (setup frame C.Checksum.marked C.Checksum.meaning) (W.ReadableShelf.holds shelf.old) (slots_in states.now) tally.old address owner mending found.old rebuilt.old findings.old) (W.WritableShelf.conduct shelf.old) (W.WritableShelf.conduct shelf.new) result found.new rebuilt.new findings.new tally.new }
-    ensures cards { W.ReadableShelf.cards shelf.new ≡ W.ReadableShelf.cards shelf.old }
-    ensures blocks { W.ReadableShelf.blocks shelf.new ≡ W.ReadableShelf.blocks shelf.old }
+    requires cards { W.cards shelf.old ≡ frame.width + 1 }
+    requires blocks { W.blocks shelf.old ≡ frame.blocks }
+    ensures done { ReadDone (read_call (setup frame C.marked C.meaning) (W.holds shelf.old) (slots_in states.now) tally.old address owner mending found.old rebuilt.old findings.old) (W.conduct shelf.old) (W.conduct shelf.new) result found.new rebuilt.new findings.new tally.new }
+    ensures cards { W.cards shelf.new ≡ W.cards shelf.old }
+    ensures blocks { W.blocks shelf.new ≡ W.blocks shelf.old }
 {
     if !both_long(found, rebuilt) {
         return Err(Refusal::Length);
@@ -223,11 +223,11 @@ pub fn read_call<W: WritableShelf, C: Checksum>(
     rebuilt: &mut [u8],
     findings: &mut [Finding; 8],
 ) -> Result<ReadAnswer, Refusal>
-    requires cards { W.ReadableShelf.cards shelf.old ≡ frame.width + 1 }
-    requires blocks { W.ReadableShelf.blocks shelf.old ≡ frame.blocks }
-    ensures done { ReadDone (read_call (setup frame C.Checksum.marked C.Checksum.meaning) (W.ReadableShelf.holds shelf.old) (slots_in states.now) tally.old address owner mending found.old rebuilt.old findings.old) (W.WritableShelf.conduct shelf.old) (W.WritableShelf.conduct shelf.new) result found.new rebuilt.new findings.new tally.new }
-    ensures cards { W.ReadableShelf.cards shelf.new ≡ W.ReadableShelf.cards shelf.old }
-    ensures blocks { W.ReadableShelf.blocks shelf.new ≡ W.ReadableShelf.blocks shelf.old }
+    requires cards { W.cards shelf.old ≡ frame.width + 1 }
+    requires blocks { W.blocks shelf.old ≡ frame.blocks }
+    ensures done { ReadDone (read_call (setup frame C.marked C.meaning) (W.holds shelf.old) (slots_in states.now) tally.old address owner mending found.old rebuilt.old findings.old) (W.conduct shelf.old) (W.conduct shelf.new) result found.new rebuilt.new findings.new tally.new }
+    ensures cards { W.cards shelf.new ≡ W.cards shelf.old }
+    ensures blocks { W.blocks shelf.new ≡ W.blocks shelf.old }
 {
     read_checked::<W, C>(
         shelf, frame, states, tally, address, owner, mending, found, rebuilt, findings,

@@ -17,12 +17,12 @@ use stripe::{SlotState, look};
 
 // Writes the block of a patch of stripe s straight to its place, if it is the slot's; answers whether it was written.
 fn write_own<W: WritableShelf>(shelf: &mut W, slot: u32, s: u32, patch: Option<Patch>) -> bool
-    requires slot_within { slot < W.ReadableShelf.cards shelf.old }
-    requires block_within { s < W.ReadableShelf.blocks shelf.old }
+    requires slot_within { slot < W.cards shelf.old }
+    requires block_within { s < W.blocks shelf.old }
     ensures is { result ≡ any_write (refill_from slot s patch) }
-    ensures wrote { W.WritableShelf.conduct shelf.new ≡ after_all (W.WritableShelf.conduct shelf.old) (refill_from slot s patch) }
-    ensures cards { W.ReadableShelf.cards shelf.new ≡ W.ReadableShelf.cards shelf.old }
-    ensures blocks { W.ReadableShelf.blocks shelf.new ≡ W.ReadableShelf.blocks shelf.old }
+    ensures wrote { W.conduct shelf.new ≡ after_all (W.conduct shelf.old) (refill_from slot s patch) }
+    ensures cards { W.cards shelf.new ≡ W.cards shelf.old }
+    ensures blocks { W.blocks shelf.new ≡ W.blocks shelf.old }
 {
     match patch {
         None => false,
@@ -44,9 +44,9 @@ fn stripe_patch<W: WritableShelf, C: Checksum>(
     states: &[SlotState; 8],
     s: u32,
 ) -> Option<Patch>
-    requires cards { W.ReadableShelf.cards shelf.now ≡ frame.width + 1 }
-    requires within { s < W.ReadableShelf.blocks shelf.now }
-    ensures { (c : ℕ) → refill_from c s result ≡ rebuild_writes (setup frame C.Checksum.marked C.Checksum.meaning) (W.WritableShelf.conduct shelf.now []) (slots_in states.now) s c }
+    requires cards { W.cards shelf.now ≡ frame.width + 1 }
+    requires within { s < W.blocks shelf.now }
+    ensures { (c : ℕ) → refill_from c s result ≡ rebuild_writes (setup frame C.marked C.meaning) (W.conduct shelf.now []) (slots_in states.now) s c }
 {
     let stripe = look::<W, C>(shelf, frame, states, s);
     patch_of::<C>(&stripe.parity, &stripe.data, frame, s)
@@ -60,13 +60,13 @@ fn refill_one<W: WritableShelf, C: Checksum>(
     slot: u32,
     s: u32,
 ) -> bool
-    requires cards { W.ReadableShelf.cards shelf.old ≡ frame.width + 1 }
-    requires within { s < W.ReadableShelf.blocks shelf.old }
+    requires cards { W.cards shelf.old ≡ frame.width + 1 }
+    requires within { s < W.blocks shelf.old }
     requires placed { slot ≤ frame.width }
-    ensures is { result ≡ any_write (rebuild_writes (setup frame C.Checksum.marked C.Checksum.meaning) (W.WritableShelf.conduct shelf.old []) (slots_in states.now) s slot) }
-    ensures wrote { W.WritableShelf.conduct shelf.new ≡ after_all (W.WritableShelf.conduct shelf.old) (rebuild_writes (setup frame C.Checksum.marked C.Checksum.meaning) (W.WritableShelf.conduct shelf.old []) (slots_in states.now) s slot) }
-    ensures cards { W.ReadableShelf.cards shelf.new ≡ W.ReadableShelf.cards shelf.old }
-    ensures blocks { W.ReadableShelf.blocks shelf.new ≡ W.ReadableShelf.blocks shelf.old }
+    ensures is { result ≡ any_write (rebuild_writes (setup frame C.marked C.meaning) (W.conduct shelf.old []) (slots_in states.now) s slot) }
+    ensures wrote { W.conduct shelf.new ≡ after_all (W.conduct shelf.old) (rebuild_writes (setup frame C.marked C.meaning) (W.conduct shelf.old []) (slots_in states.now) s slot) }
+    ensures cards { W.cards shelf.new ≡ W.cards shelf.old }
+    ensures blocks { W.blocks shelf.new ≡ W.blocks shelf.old }
 {
     let patch = stripe_patch::<W, C>(shelf, frame, states, s);
     write_own(shelf, slot, s, patch)
@@ -105,16 +105,16 @@ fn refill_at<W: WritableShelf, C: Checksum>(
     counts: RebuildCounts,
     i: u32,
 ) -> RebuildCounts
-    requires cards { W.ReadableShelf.cards shelf.old ≡ frame.width + 1 }
-    requires within { s < W.ReadableShelf.blocks shelf.old }
-    requires many { W.ReadableShelf.blocks shelf.old ≡ frame.blocks }
+    requires cards { W.cards shelf.old ≡ frame.width + 1 }
+    requires within { s < W.blocks shelf.old }
+    requires many { W.blocks shelf.old ≡ frame.blocks }
     requires placed { slot ≤ frame.width }
     requires few { i < 65536 }
     requires below { RebuildBelow counts i }
-    ensures did { rebuilding (W.WritableShelf.conduct shelf.new) (slots_in states.new) result ≡ refill (setup frame C.Checksum.marked C.Checksum.meaning) slot s (rebuilding (W.WritableShelf.conduct shelf.old) (slots_in states.old) counts) }
+    ensures did { rebuilding (W.conduct shelf.new) (slots_in states.new) result ≡ refill (setup frame C.marked C.meaning) slot s (rebuilding (W.conduct shelf.old) (slots_in states.old) counts) }
     ensures below { RebuildBelow result (i + 1) }
-    ensures cards { W.ReadableShelf.cards shelf.new ≡ W.ReadableShelf.cards shelf.old }
-    ensures blocks { W.ReadableShelf.blocks shelf.new ≡ W.ReadableShelf.blocks shelf.old }
+    ensures cards { W.cards shelf.new ≡ W.cards shelf.old }
+    ensures blocks { W.blocks shelf.new ≡ W.blocks shelf.old }
 {
     let mended = refill_one::<W, C>(shelf, frame, states, slot, s);
     states[slot as usize] = SlotState::Filling(s + 1);
@@ -130,15 +130,15 @@ fn refill_next<W: WritableShelf, C: Checksum>(
     counts: RebuildCounts,
     i: u32,
 ) -> RebuildCounts
-    requires cards { W.ReadableShelf.cards shelf.old ≡ frame.width + 1 }
-    requires blocks { W.ReadableShelf.blocks shelf.old ≡ frame.blocks }
+    requires cards { W.cards shelf.old ≡ frame.width + 1 }
+    requires blocks { W.blocks shelf.old ≡ frame.blocks }
     requires placed { slot ≤ frame.width }
     requires few { i < 65536 }
     requires below { RebuildBelow counts i }
-    ensures did { rebuilding (W.WritableShelf.conduct shelf.new) (slots_in states.new) result ≡ refill_next (setup frame C.Checksum.marked C.Checksum.meaning) slot (rebuilding (W.WritableShelf.conduct shelf.old) (slots_in states.old) counts) }
+    ensures did { rebuilding (W.conduct shelf.new) (slots_in states.new) result ≡ refill_next (setup frame C.marked C.meaning) slot (rebuilding (W.conduct shelf.old) (slots_in states.old) counts) }
     ensures below { RebuildBelow result (i + 1) }
-    ensures cards { W.ReadableShelf.cards shelf.new ≡ W.ReadableShelf.cards shelf.old }
-    ensures blocks { W.ReadableShelf.blocks shelf.new ≡ W.ReadableShelf.blocks shelf.old }
+    ensures cards { W.cards shelf.new ≡ W.cards shelf.old }
+    ensures blocks { W.blocks shelf.new ≡ W.blocks shelf.old }
 {
     match states[slot as usize] {
         SlotState::In => counts,
@@ -161,15 +161,15 @@ fn refill_many<W: WritableShelf, C: Checksum>(
     slot: u32,
     stripes: u32,
 ) -> RebuildCounts
-    requires cards { W.ReadableShelf.cards shelf.old ≡ frame.width + 1 }
-    requires blocks { W.ReadableShelf.blocks shelf.old ≡ frame.blocks }
+    requires cards { W.cards shelf.old ≡ frame.width + 1 }
+    requires blocks { W.blocks shelf.old ≡ frame.blocks }
     requires few { stripes ≤ 65536 }
     requires placed { slot ≤ frame.width }
-    requires allowed { rebuild_refused (setup frame C.Checksum.marked C.Checksum.meaning) (slots_in states.old) slot stripes ≡ NotRefused }
-    ensures answer { Ok result ≡ rebuild_answer (setup frame C.Checksum.marked C.Checksum.meaning) (W.WritableShelf.conduct shelf.old) (slots_in states.old) slot stripes }
-    ensures done { RebuildDone (rebuild_end (setup frame C.Checksum.marked C.Checksum.meaning) (W.WritableShelf.conduct shelf.old) (slots_in states.old) slot stripes) (W.WritableShelf.conduct shelf.new) (slots_in states.new) }
-    ensures cards { W.ReadableShelf.cards shelf.new ≡ W.ReadableShelf.cards shelf.old }
-    ensures blocks { W.ReadableShelf.blocks shelf.new ≡ W.ReadableShelf.blocks shelf.old }
+    requires allowed { rebuild_refused (setup frame C.marked C.meaning) (slots_in states.old) slot stripes ≡ NotRefused }
+    ensures answer { Ok result ≡ rebuild_answer (setup frame C.marked C.meaning) (W.conduct shelf.old) (slots_in states.old) slot stripes }
+    ensures done { RebuildDone (rebuild_end (setup frame C.marked C.meaning) (W.conduct shelf.old) (slots_in states.old) slot stripes) (W.conduct shelf.new) (slots_in states.new) }
+    ensures cards { W.cards shelf.new ≡ W.cards shelf.old }
+    ensures blocks { W.blocks shelf.new ≡ W.blocks shelf.old }
 {
     let mut counts = RebuildCounts {
         moved: 0,
@@ -206,7 +206,7 @@ fn refused_by<C: Checksum>(
     slot: u32,
     stripes: u32,
 ) -> Option<Refusal>
-    ensures is { result ≡ rebuild_refused (setup frame C.Checksum.marked C.Checksum.meaning) (slots_in states.now) slot stripes }
+    ensures is { result ≡ rebuild_refused (setup frame C.marked C.meaning) (slots_in states.now) slot stripes }
     ensures placed { result ≡ NotRefused → slot ≤ frame.width }
     ensures few { result ≡ NotRefused → stripes ≤ 65536 }
 {
@@ -229,13 +229,13 @@ pub fn rebuild_call<W: WritableShelf, C: Checksum>(
     slot: u32,
     stripes: u32,
 ) -> Result<RebuildCounts, Refusal>
-    requires cards { W.ReadableShelf.cards shelf.old ≡ frame.width + 1 }
-    requires blocks { W.ReadableShelf.blocks shelf.old ≡ frame.blocks }
-    ensures answer { result ≡ rebuild_answer (setup frame C.Checksum.marked C.Checksum.meaning) (W.WritableShelf.conduct shelf.old) (slots_in states.old) slot stripes }
-    ensures done { RebuildDone (rebuild_end (setup frame C.Checksum.marked C.Checksum.meaning) (W.WritableShelf.conduct shelf.old) (slots_in states.old) slot stripes) (W.WritableShelf.conduct shelf.new) (slots_in states.new) }
+    requires cards { W.cards shelf.old ≡ frame.width + 1 }
+    requires blocks { W.blocks shelf.old ≡ frame.blocks }
+    ensures answer { result ≡ rebuild_answer (setup frame C.marked C.meaning) (W.conduct shelf.old) (slots_in states.old) slot stripes }
+    ensures done { RebuildDone (rebuild_end (setup frame C.marked C.meaning) (W.conduct shelf.old) (slots_in states.old) slot stripes) (W.conduct shelf.new) (slots_in states.new) }
     ensures long { length states.new ≡ 8 }
-    ensures cards { W.ReadableShelf.cards shelf.new ≡ W.ReadableShelf.cards shelf.old }
-    ensures blocks { W.ReadableShelf.blocks shelf.new ≡ W.ReadableShelf.blocks shelf.old }
+    ensures cards { W.cards shelf.new ≡ W.cards shelf.old }
+    ensures blocks { W.blocks shelf.new ≡ W.blocks shelf.old }
 {
     match refused_by::<C>(frame, states, slot, stripes) {
         None => Ok(refill_many::<W, C>(shelf, frame, states, slot, stripes)),

@@ -62,13 +62,13 @@ fn sweep_one<W: WritableShelf, C: Checksum>(
     stripe: &mut Stripe,
     findings: &mut [Finding; 8],
 ) -> Swept
-    requires cards { W.ReadableShelf.cards shelf.old ≡ frame.width + 1 }
-    requires within { s < W.ReadableShelf.blocks shelf.old }
-    ensures is { result ≡ swept_of (setup frame C.Checksum.marked C.Checksum.meaning) (W.WritableShelf.conduct shelf.old []) (slots_in states.now) s }
-    ensures wrote { W.WritableShelf.conduct shelf.new ≡ after_all (W.WritableShelf.conduct shelf.old) (sweep_writes (setup frame C.Checksum.marked C.Checksum.meaning) (W.WritableShelf.conduct shelf.old []) (slots_in states.now) s) }
-    ensures findings { findings.new ≡ (if last then sweep_findings (setup frame C.Checksum.marked C.Checksum.meaning) (W.WritableShelf.conduct shelf.old []) (slots_in states.now) s else findings.old) }
-    ensures cards { W.ReadableShelf.cards shelf.new ≡ W.ReadableShelf.cards shelf.old }
-    ensures blocks { W.ReadableShelf.blocks shelf.new ≡ W.ReadableShelf.blocks shelf.old }
+    requires cards { W.cards shelf.old ≡ frame.width + 1 }
+    requires within { s < W.blocks shelf.old }
+    ensures is { result ≡ swept_of (setup frame C.marked C.meaning) (W.conduct shelf.old []) (slots_in states.now) s }
+    ensures wrote { W.conduct shelf.new ≡ after_all (W.conduct shelf.old) (sweep_writes (setup frame C.marked C.meaning) (W.conduct shelf.old []) (slots_in states.now) s) }
+    ensures findings { findings.new ≡ (if last then sweep_findings (setup frame C.marked C.meaning) (W.conduct shelf.old []) (slots_in states.now) s else findings.old) }
+    ensures cards { W.cards shelf.new ≡ W.cards shelf.old }
+    ensures blocks { W.blocks shelf.new ≡ W.blocks shelf.old }
 {
     look_into::<W, C>(shelf, frame, states, s, stripe);
     let decision = decide(&stripe.parity, &stripe.data, frame, s);
@@ -150,13 +150,13 @@ fn sweep_many<W: WritableShelf, C: Checksum>(
     stripes: u32,
     findings: &mut [Finding; 8],
 ) -> ScrubCounts
-    requires cards { W.ReadableShelf.cards shelf.old ≡ frame.width + 1 }
-    requires blocks { W.ReadableShelf.blocks shelf.old ≡ frame.blocks }
+    requires cards { W.cards shelf.old ≡ frame.width + 1 }
+    requires blocks { W.blocks shelf.old ≡ frame.blocks }
     requires few { stripes ≤ 65536 }
-    ensures answer { Ok result ≡ scrub_answer (setup frame C.Checksum.marked C.Checksum.meaning) (W.WritableShelf.conduct shelf.old) (slots_in states.now) cursor.old stripes findings.old }
-    ensures done { ScrubDone (scrub_end (setup frame C.Checksum.marked C.Checksum.meaning) (W.WritableShelf.conduct shelf.old) (slots_in states.now) cursor.old stripes findings.old) (W.WritableShelf.conduct shelf.new) cursor.new findings.new }
-    ensures cards { W.ReadableShelf.cards shelf.new ≡ W.ReadableShelf.cards shelf.old }
-    ensures blocks { W.ReadableShelf.blocks shelf.new ≡ W.ReadableShelf.blocks shelf.old }
+    ensures answer { Ok result ≡ scrub_answer (setup frame C.marked C.meaning) (W.conduct shelf.old) (slots_in states.now) cursor.old stripes findings.old }
+    ensures done { ScrubDone (scrub_end (setup frame C.marked C.meaning) (W.conduct shelf.old) (slots_in states.now) cursor.old stripes findings.old) (W.conduct shelf.new) cursor.new findings.new }
+    ensures cards { W.cards shelf.new ≡ W.cards shelf.old }
+    ensures blocks { W.blocks shelf.new ≡ W.blocks shelf.old }
 {
     let mut counts = ScrubCounts {
         looked: 0,
@@ -185,12 +185,12 @@ pub fn scrub_call<W: WritableShelf, C: Checksum>(
     stripes: u32,
     findings: &mut [Finding; 8],
 ) -> Result<ScrubCounts, Refusal>
-    requires cards { W.ReadableShelf.cards shelf.old ≡ frame.width + 1 }
-    requires blocks { W.ReadableShelf.blocks shelf.old ≡ frame.blocks }
-    ensures answer { result ≡ scrub_answer (setup frame C.Checksum.marked C.Checksum.meaning) (W.WritableShelf.conduct shelf.old) (slots_in states.now) cursor.old stripes findings.old }
-    ensures done { ScrubDone (scrub_end (setup frame C.Checksum.marked C.Checksum.meaning) (W.WritableShelf.conduct shelf.old) (slots_in states.now) cursor.old stripes findings.old) (W.WritableShelf.conduct shelf.new) cursor.new findings.new }
-    ensures cards { W.ReadableShelf.cards shelf.new ≡ W.ReadableShelf.cards shelf.old }
-    ensures blocks { W.ReadableShelf.blocks shelf.new ≡ W.ReadableShelf.blocks shelf.old }
+    requires cards { W.cards shelf.old ≡ frame.width + 1 }
+    requires blocks { W.blocks shelf.old ≡ frame.blocks }
+    ensures answer { result ≡ scrub_answer (setup frame C.marked C.meaning) (W.conduct shelf.old) (slots_in states.now) cursor.old stripes findings.old }
+    ensures done { ScrubDone (scrub_end (setup frame C.marked C.meaning) (W.conduct shelf.old) (slots_in states.now) cursor.old stripes findings.old) (W.conduct shelf.new) cursor.new findings.new }
+    ensures cards { W.cards shelf.new ≡ W.cards shelf.old }
+    ensures blocks { W.blocks shelf.new ≡ W.blocks shelf.old }
 {
     if few(stripes) {
         Ok(sweep_many::<W, C>(shelf, frame, states, cursor, stripes, findings))

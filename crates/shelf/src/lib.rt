@@ -52,26 +52,26 @@ pub trait WritableShelf: ReadableShelf {
     ghost conduct: { Self → Conduct };
 
     fn write(&mut self, slot: u32, block: u32, bytes: &[u8]) -> Result<(), Refusal>
-        ensures answer { result ≡ write_answer tt (Self.ReadableShelf.cards self.old) (Self.ReadableShelf.blocks self.old) slot block (length bytes.now) }
-        ensures wrote { conduct self.new ≡ after_all (conduct self.old) (writes_taken (Self.ReadableShelf.cards self.old) (Self.ReadableShelf.blocks self.old) slot block bytes.now) }
-        ensures cards { Self.ReadableShelf.cards self.new ≡ Self.ReadableShelf.cards self.old }
-        ensures blocks { Self.ReadableShelf.blocks self.new ≡ Self.ReadableShelf.blocks self.old }
-        ensures before { content self.old ≡ Self.ReadableShelf.holds self.old }
-        ensures then { content self.new ≡ Self.ReadableShelf.holds self.new };
+        ensures answer { result ≡ write_answer tt (Self.cards self.old) (Self.blocks self.old) slot block (length bytes.now) }
+        ensures wrote { conduct self.new ≡ after_all (conduct self.old) (writes_taken (Self.cards self.old) (Self.blocks self.old) slot block bytes.now) }
+        ensures cards { Self.cards self.new ≡ Self.cards self.old }
+        ensures blocks { Self.blocks self.new ≡ Self.blocks self.old }
+        ensures before { content self.old ≡ Self.holds self.old }
+        ensures then { content self.new ≡ Self.holds self.new };
 
     ghost starts: { (s : Self) → conduct s [] ≡ content s };
 
-    ghost same: { (s : Self) → content s ≡ Self.ReadableShelf.holds s };
+    ghost same: { (s : Self) → content s ≡ Self.holds s };
 
     // A write changes its own card only, whatever was written before.
-    ghost own: { (s : Self) → OwnCard (Self.ReadableShelf.cards s) (Self.ReadableShelf.blocks s) (conduct s) };
+    ghost own: { (s : Self) → OwnCard (Self.cards s) (Self.blocks s) (conduct s) };
 }
 
 // What a place holds, of a place that the shelf has.
 pub fn fetch<R: ReadableShelf>(shelf: &R, slot: u32, block: u32) -> Cell
-    requires slot_within { slot < cards shelf.now }
-    requires block_within { block < blocks shelf.now }
-    ensures { result ≡ holds shelf.now slot block }
+    requires slot_within { slot < R.cards shelf.now }
+    requires block_within { block < R.blocks shelf.now }
+    ensures { result ≡ R.holds shelf.now slot block }
 {
     let mut bytes = [0u8; 128];
     match shelf.read(slot, block, &mut bytes) {
@@ -85,11 +85,11 @@ pub fn fetch<R: ReadableShelf>(shelf: &R, slot: u32, block: u32) -> Cell
 
 // Hands down the write of a whole block to a place that the shelf has.
 pub fn store<W: WritableShelf>(shelf: &mut W, slot: u32, block: u32, bytes: &[u8; 128])
-    requires slot_within { slot < W.ReadableShelf.cards shelf.old }
-    requires block_within { block < W.ReadableShelf.blocks shelf.old }
-    ensures wrote { W.WritableShelf.conduct shelf.new ≡ after_all (W.WritableShelf.conduct shelf.old) (write_of slot block bytes.now ∷ []) }
-    ensures cards { W.ReadableShelf.cards shelf.new ≡ W.ReadableShelf.cards shelf.old }
-    ensures blocks { W.ReadableShelf.blocks shelf.new ≡ W.ReadableShelf.blocks shelf.old }
+    requires slot_within { slot < W.cards shelf.old }
+    requires block_within { block < W.blocks shelf.old }
+    ensures wrote { W.conduct shelf.new ≡ after_all (W.conduct shelf.old) (write_of slot block bytes.now ∷ []) }
+    ensures cards { W.cards shelf.new ≡ W.cards shelf.old }
+    ensures blocks { W.blocks shelf.new ≡ W.blocks shelf.old }
 {
     let _ = shelf.write(slot, block, bytes);
 }

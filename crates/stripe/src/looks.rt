@@ -11,8 +11,8 @@ use shelf::{ReadableShelf, fetch};
 // The frame of an array on a shelf, under a tag.
 pub fn frame_of<R: ReadableShelf>(shelf: &R, tag: u32) -> Frame
     requires { 1 ≤ tag }
-    ensures width { result.width + 1 ≡ R.ReadableShelf.cards shelf.now }
-    ensures blocks { result.blocks ≡ R.ReadableShelf.blocks shelf.now }
+    ensures width { result.width + 1 ≡ R.cards shelf.now }
+    ensures blocks { result.blocks ≡ R.blocks shelf.now }
     ensures tag { result.tag ≡ tag }
 {
     let cards = shelf.card_count();
@@ -37,9 +37,9 @@ pub fn takes(state: SlotState, s: u32) -> bool
 
 // What is seen of a place of a slot in such a state; no read is sent to a place that the state hides.
 fn seen<R: ReadableShelf>(shelf: &R, state: SlotState, slot: u32, s: u32) -> Cell
-    requires slot_within { slot < cards shelf.now }
-    requires block_within { s < blocks shelf.now }
-    ensures { result ≡ seen_at (holds shelf.now slot s) state s }
+    requires slot_within { slot < R.cards shelf.now }
+    requires block_within { s < R.blocks shelf.now }
+    ensures { result ≡ seen_at (R.holds shelf.now slot s) state s }
 {
     if takes(state, s) {
         fetch(shelf, slot, s)
@@ -57,10 +57,10 @@ fn judge_into<R: ReadableShelf, C: Checksum>(
     role: Role,
     out: &mut Verdict,
 )
-    requires cards { R.ReadableShelf.cards shelf.now ≡ frame.width + 1 }
-    requires within { s < R.ReadableShelf.blocks shelf.now }
+    requires cards { R.cards shelf.now ≡ frame.width + 1 }
+    requires within { s < R.blocks shelf.now }
     requires placed { (j : ℕ) → role ≡ Role.Data j → j < frame.width }
-    ensures { out.new ≡ view_of (setup frame C.Checksum.marked C.Checksum.meaning) (R.ReadableShelf.holds shelf.now) (slots_in states.now) s role }
+    ensures { out.new ≡ view_of (setup frame C.marked C.meaning) (R.holds shelf.now) (slots_in states.now) s role }
 {
     let slot = slot_of(frame, s, role);
     let cell = seen(shelf, states[slot as usize], slot, s);
@@ -75,10 +75,10 @@ pub fn judge_place<R: ReadableShelf, C: Checksum>(
     s: u32,
     role: Role,
 ) -> Verdict
-    requires cards { R.ReadableShelf.cards shelf.now ≡ frame.width + 1 }
-    requires within { s < R.ReadableShelf.blocks shelf.now }
+    requires cards { R.cards shelf.now ≡ frame.width + 1 }
+    requires within { s < R.blocks shelf.now }
     requires placed { (j : ℕ) → role ≡ Role.Data j → j < frame.width }
-    ensures { result ≡ view_of (setup frame C.Checksum.marked C.Checksum.meaning) (R.ReadableShelf.holds shelf.now) (slots_in states.now) s role }
+    ensures { result ≡ view_of (setup frame C.marked C.meaning) (R.holds shelf.now) (slots_in states.now) s role }
 {
     let mut verdict = Verdict::Unfit(Defect::Blind);
     judge_into::<R, C>(shelf, frame, states, s, role, &mut verdict);
@@ -94,9 +94,9 @@ fn judge_data<R: ReadableShelf, C: Checksum>(
     j: u32,
     out: &mut Verdict,
 )
-    requires cards { R.ReadableShelf.cards shelf.now ≡ frame.width + 1 }
-    requires within { s < R.ReadableShelf.blocks shelf.now }
-    ensures { out.new ≡ view_of (setup frame C.Checksum.marked C.Checksum.meaning) (R.ReadableShelf.holds shelf.now) (slots_in states.now) s (Role.Data j) }
+    requires cards { R.cards shelf.now ≡ frame.width + 1 }
+    requires within { s < R.blocks shelf.now }
+    ensures { out.new ≡ view_of (setup frame C.marked C.meaning) (R.holds shelf.now) (slots_in states.now) s (Role.Data j) }
 {
     if j < frame.width {
         judge_into::<R, C>(shelf, frame, states, s, Role::Data(j), out);
@@ -113,9 +113,9 @@ fn look_data<R: ReadableShelf, C: Checksum>(
     s: u32,
     data: &mut [Verdict; 7],
 )
-    requires cards { R.ReadableShelf.cards shelf.now ≡ frame.width + 1 }
-    requires within { s < R.ReadableShelf.blocks shelf.now }
-    ensures { «data».new ≡ row_of (view_of (setup frame C.Checksum.marked C.Checksum.meaning) (R.ReadableShelf.holds shelf.now) (slots_in states.now) s) }
+    requires cards { R.cards shelf.now ≡ frame.width + 1 }
+    requires within { s < R.blocks shelf.now }
+    ensures { «data».new ≡ row_of (view_of (setup frame C.marked C.meaning) (R.holds shelf.now) (slots_in states.now) s) }
 {
     for j in 0..7u32 {
         judge_data::<R, C>(shelf, frame, states, s, j, &mut data[j as usize]);
@@ -130,9 +130,9 @@ pub fn look_into<R: ReadableShelf, C: Checksum>(
     s: u32,
     stripe: &mut Stripe,
 )
-    requires cards { R.ReadableShelf.cards shelf.now ≡ frame.width + 1 }
-    requires within { s < R.ReadableShelf.blocks shelf.now }
-    ensures { stripe.new ≡ stripe_of (view_of (setup frame C.Checksum.marked C.Checksum.meaning) (R.ReadableShelf.holds shelf.now) (slots_in states.now) s) }
+    requires cards { R.cards shelf.now ≡ frame.width + 1 }
+    requires within { s < R.blocks shelf.now }
+    ensures { stripe.new ≡ stripe_of (view_of (setup frame C.marked C.meaning) (R.holds shelf.now) (slots_in states.now) s) }
 {
     look_data::<R, C>(shelf, frame, states, s, &mut stripe.data);
     judge_into::<R, C>(shelf, frame, states, s, Role::Parity, &mut stripe.parity);
@@ -155,9 +155,9 @@ pub fn look<R: ReadableShelf, C: Checksum>(
     states: &[SlotState; 8],
     s: u32,
 ) -> Stripe
-    requires cards { R.ReadableShelf.cards shelf.now ≡ frame.width + 1 }
-    requires within { s < R.ReadableShelf.blocks shelf.now }
-    ensures { result ≡ stripe_of (view_of (setup frame C.Checksum.marked C.Checksum.meaning) (R.ReadableShelf.holds shelf.now) (slots_in states.now) s) }
+    requires cards { R.cards shelf.now ≡ frame.width + 1 }
+    requires within { s < R.blocks shelf.now }
+    ensures { result ≡ stripe_of (view_of (setup frame C.marked C.meaning) (R.holds shelf.now) (slots_in states.now) s) }
 {
     let mut stripe = unseen();
     look_into::<R, C>(shelf, frame, states, s, &mut stripe);

@@ -160,9 +160,9 @@ fn look_all<R: ReadableShelf, C: Checksum>(
     states: &[SlotState; 8],
     s: u32,
 ) -> Stripe
-    requires cards { R.ReadableShelf.cards shelf.now ≡ frame.width + 1 }
-    requires within { s < R.ReadableShelf.blocks shelf.now }
-    ensures { as_view result.parity result.«data» ≡ view_of (setup frame C.Checksum.marked C.Checksum.meaning) (R.ReadableShelf.holds shelf.now) (slots_in states.now) s }
+    requires cards { R.cards shelf.now ≡ frame.width + 1 }
+    requires within { s < R.blocks shelf.now }
+    ensures { as_view result.parity result.«data» ≡ view_of (setup frame C.marked C.meaning) (R.holds shelf.now) (slots_in states.now) s }
 {
     look::<R, C>(shelf, frame, states, s)
 }
@@ -178,10 +178,10 @@ fn prepare_all<R: ReadableShelf, C: Checksum>(
     owner: u32,
     findings: &mut [Finding; 8],
 ) -> Prepared
-    requires cards { R.ReadableShelf.cards shelf.now ≡ frame.width + 1 }
-    requires within { s < R.ReadableShelf.blocks shelf.now }
+    requires cards { R.cards shelf.now ≡ frame.width + 1 }
+    requires within { s < R.blocks shelf.now }
     requires placed { j < frame.width }
-    ensures { ReadyBy Way.Additive (setup frame C.Checksum.marked C.Checksum.meaning) (R.ReadableShelf.holds shelf.now) (slots_in states.now) s j payload.now owner result findings.new }
+    ensures { ReadyBy Way.Additive (setup frame C.marked C.meaning) (R.holds shelf.now) (slots_in states.now) s j payload.now owner result findings.new }
 {
     let stripe = look_all::<R, C>(shelf, frame, states, s);
     findings_all(&stripe.parity, &stripe.data, frame, s, None, findings);
@@ -199,10 +199,10 @@ fn prepare_two<R: ReadableShelf, C: Checksum>(
     owner: u32,
     findings: &mut [Finding; 8],
 ) -> Prepared
-    requires cards { R.ReadableShelf.cards shelf.now ≡ frame.width + 1 }
-    requires within { s < R.ReadableShelf.blocks shelf.now }
+    requires cards { R.cards shelf.now ≡ frame.width + 1 }
+    requires within { s < R.blocks shelf.now }
     requires placed { j < frame.width }
-    ensures { ReadyBy Way.Subtractive (setup frame C.Checksum.marked C.Checksum.meaning) (R.ReadableShelf.holds shelf.now) (slots_in states.now) s j payload.now owner result findings.new }
+    ensures { ReadyBy Way.Subtractive (setup frame C.marked C.meaning) (R.holds shelf.now) (slots_in states.now) s j payload.now owner result findings.new }
 {
     let block = judge_place::<R, C>(shelf, frame, states, s, Role::Data(j));
     let parity = judge_place::<R, C>(shelf, frame, states, s, Role::Parity);
@@ -226,10 +226,10 @@ pub fn prepare<R: ReadableShelf, C: Checksum>(
     way: Way,
     findings: &mut [Finding; 8],
 ) -> Prepared
-    requires cards { R.ReadableShelf.cards shelf.now ≡ frame.width + 1 }
-    requires within { s < R.ReadableShelf.blocks shelf.now }
+    requires cards { R.cards shelf.now ≡ frame.width + 1 }
+    requires within { s < R.blocks shelf.now }
     requires placed { j < frame.width }
-    ensures { ReadyBy way (setup frame C.Checksum.marked C.Checksum.meaning) (R.ReadableShelf.holds shelf.now) (slots_in states.now) s j payload.now owner result findings.new }
+    ensures { ReadyBy way (setup frame C.marked C.meaning) (R.holds shelf.now) (slots_in states.now) s j payload.now owner result findings.new }
 {
     match way {
         Way::Subtractive => prepare_two::<R, C>(

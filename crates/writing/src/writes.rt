@@ -19,12 +19,12 @@ use stripe::{Finding, SlotState};
 
 // Hands a block down to its slot at stripe s, unless the slot's state hides the place.
 fn send<W: WritableShelf>(shelf: &mut W, states: &[SlotState; 8], s: u32, patch: Patch)
-    requires few { W.ReadableShelf.cards shelf.old ≤ 8 }
-    requires within { s < W.ReadableShelf.blocks shelf.old }
-    requires below { patch.slot < W.ReadableShelf.cards shelf.old }
-    ensures wrote { W.WritableShelf.conduct shelf.new ≡ after_all (W.WritableShelf.conduct shelf.old) (sent (slots_in states.now) (write_of patch.slot s patch.bytes)) }
-    ensures cards { W.ReadableShelf.cards shelf.new ≡ W.ReadableShelf.cards shelf.old }
-    ensures blocks { W.ReadableShelf.blocks shelf.new ≡ W.ReadableShelf.blocks shelf.old }
+    requires few { W.cards shelf.old ≤ 8 }
+    requires within { s < W.blocks shelf.old }
+    requires below { patch.slot < W.cards shelf.old }
+    ensures wrote { W.conduct shelf.new ≡ after_all (W.conduct shelf.old) (sent (slots_in states.now) (write_of patch.slot s patch.bytes)) }
+    ensures cards { W.cards shelf.new ≡ W.cards shelf.old }
+    ensures blocks { W.blocks shelf.new ≡ W.blocks shelf.old }
 {
     apply_patch(shelf, states, s, Some(patch));
 }
@@ -37,13 +37,13 @@ fn send_both<W: WritableShelf>(
     first: Patch,
     second: Patch,
 )
-    requires few { W.ReadableShelf.cards shelf.old ≤ 8 }
-    requires within { s < W.ReadableShelf.blocks shelf.old }
-    requires first { first.slot < W.ReadableShelf.cards shelf.old }
-    requires second { second.slot < W.ReadableShelf.cards shelf.old }
-    ensures wrote { W.WritableShelf.conduct shelf.new ≡ after_all (W.WritableShelf.conduct shelf.old) (sent (slots_in states.now) (write_of first.slot s first.bytes) ++ sent (slots_in states.now) (write_of second.slot s second.bytes)) }
-    ensures cards { W.ReadableShelf.cards shelf.new ≡ W.ReadableShelf.cards shelf.old }
-    ensures blocks { W.ReadableShelf.blocks shelf.new ≡ W.ReadableShelf.blocks shelf.old }
+    requires few { W.cards shelf.old ≤ 8 }
+    requires within { s < W.blocks shelf.old }
+    requires first { first.slot < W.cards shelf.old }
+    requires second { second.slot < W.cards shelf.old }
+    ensures wrote { W.conduct shelf.new ≡ after_all (W.conduct shelf.old) (sent (slots_in states.now) (write_of first.slot s first.bytes) ++ sent (slots_in states.now) (write_of second.slot s second.bytes)) }
+    ensures cards { W.cards shelf.new ≡ W.cards shelf.old }
+    ensures blocks { W.blocks shelf.new ≡ W.blocks shelf.old }
 {
     send(shelf, states, s, first);
     send(shelf, states, s, second);
@@ -58,12 +58,12 @@ fn send_pair<W: WritableShelf>(
     j: u32,
     pair: Pair,
 )
-    requires cards { W.ReadableShelf.cards shelf.old ≡ frame.width + 1 }
-    requires within { s < W.ReadableShelf.blocks shelf.old }
+    requires cards { W.cards shelf.old ≡ frame.width + 1 }
+    requires within { s < W.blocks shelf.old }
     requires placed { j < frame.width }
-    ensures wrote { W.WritableShelf.conduct shelf.new ≡ after_all (W.WritableShelf.conduct shelf.old) (pair_sent frame.width (slots_in states.now) s j pair) }
-    ensures cards { W.ReadableShelf.cards shelf.new ≡ W.ReadableShelf.cards shelf.old }
-    ensures blocks { W.ReadableShelf.blocks shelf.new ≡ W.ReadableShelf.blocks shelf.old }
+    ensures wrote { W.conduct shelf.new ≡ after_all (W.conduct shelf.old) (pair_sent frame.width (slots_in states.now) s j pair) }
+    ensures cards { W.cards shelf.new ≡ W.cards shelf.old }
+    ensures blocks { W.blocks shelf.new ≡ W.blocks shelf.old }
 {
     let Pair { block, parity } = pair;
     let data_patch = Patch {
@@ -86,13 +86,13 @@ fn settle<W: WritableShelf>(
     j: u32,
     ready: Prepared,
 ) -> Result<WriteAnswer, Refusal>
-    requires cards { W.ReadableShelf.cards shelf.old ≡ frame.width + 1 }
-    requires within { s < W.ReadableShelf.blocks shelf.old }
+    requires cards { W.cards shelf.old ≡ frame.width + 1 }
+    requires within { s < W.blocks shelf.old }
     requires placed { j < frame.width }
     ensures answer { result ≡ answered_by ready.looks ready.pair }
-    ensures wrote { W.WritableShelf.conduct shelf.new ≡ after_all (W.WritableShelf.conduct shelf.old) (sent_by frame.width (slots_in states.now) s j ready.pair) }
-    ensures cards { W.ReadableShelf.cards shelf.new ≡ W.ReadableShelf.cards shelf.old }
-    ensures blocks { W.ReadableShelf.blocks shelf.new ≡ W.ReadableShelf.blocks shelf.old }
+    ensures wrote { W.conduct shelf.new ≡ after_all (W.conduct shelf.old) (sent_by frame.width (slots_in states.now) s j ready.pair) }
+    ensures cards { W.cards shelf.new ≡ W.cards shelf.old }
+    ensures blocks { W.blocks shelf.new ≡ W.blocks shelf.old }
 {
     match ready.pair {
         Ok(pair) => {
@@ -115,12 +115,12 @@ fn write_at<W: WritableShelf, C: Checksum>(
     way: Way,
     findings: &mut [Finding; 8],
 ) -> Result<WriteAnswer, Refusal>
-    requires cards { W.ReadableShelf.cards shelf.old ≡ frame.width + 1 }
-    requires within { s < W.ReadableShelf.blocks shelf.old }
+    requires cards { W.cards shelf.old ≡ frame.width + 1 }
+    requires within { s < W.blocks shelf.old }
     requires placed { j < frame.width }
-    ensures did { WriteDone (write_at (setup frame C.Checksum.marked C.Checksum.meaning) (W.ReadableShelf.holds shelf.old) (slots_in states.now) s j payload.now owner way) (W.WritableShelf.conduct shelf.old) (W.WritableShelf.conduct shelf.new) result findings.new }
-    ensures cards { W.ReadableShelf.cards shelf.new ≡ W.ReadableShelf.cards shelf.old }
-    ensures blocks { W.ReadableShelf.blocks shelf.new ≡ W.ReadableShelf.blocks shelf.old }
+    ensures did { WriteDone (write_at (setup frame C.marked C.meaning) (W.holds shelf.old) (slots_in states.now) s j payload.now owner way) (W.conduct shelf.old) (W.conduct shelf.new) result findings.new }
+    ensures cards { W.cards shelf.new ≡ W.cards shelf.old }
+    ensures blocks { W.blocks shelf.new ≡ W.blocks shelf.old }
 {
     let ready = prepare::<W, C>(shelf, frame, states, s, j, payload, owner, way, findings);
     settle(shelf, frame, states, s, j, ready)
@@ -137,11 +137,11 @@ fn write_from<W: WritableShelf, C: Checksum>(
     way: Way,
     findings: &mut [Finding; 8],
 ) -> Result<WriteAnswer, Refusal>
-    requires cards { W.ReadableShelf.cards shelf.old ≡ frame.width + 1 }
-    requires within { Within frame.width (W.ReadableShelf.blocks shelf.old) position }
-    ensures did { WriteDone (write_from (setup frame C.Checksum.marked C.Checksum.meaning) (W.ReadableShelf.holds shelf.old) (slots_in states.now) payload.now owner way findings.old position) (W.WritableShelf.conduct shelf.old) (W.WritableShelf.conduct shelf.new) result findings.new }
-    ensures cards { W.ReadableShelf.cards shelf.new ≡ W.ReadableShelf.cards shelf.old }
-    ensures blocks { W.ReadableShelf.blocks shelf.new ≡ W.ReadableShelf.blocks shelf.old }
+    requires cards { W.cards shelf.old ≡ frame.width + 1 }
+    requires within { Within frame.width (W.blocks shelf.old) position }
+    ensures did { WriteDone (write_from (setup frame C.marked C.meaning) (W.holds shelf.old) (slots_in states.now) payload.now owner way findings.old position) (W.conduct shelf.old) (W.conduct shelf.new) result findings.new }
+    ensures cards { W.cards shelf.new ≡ W.cards shelf.old }
+    ensures blocks { W.blocks shelf.new ≡ W.blocks shelf.old }
 {
     match position {
         Ok(at) => {
@@ -168,11 +168,11 @@ pub fn write_call<W: WritableShelf, C: Checksum>(
     way: Way,
     findings: &mut [Finding; 8],
 ) -> Result<WriteAnswer, Refusal>
-    requires cards { W.ReadableShelf.cards shelf.old ≡ frame.width + 1 }
-    requires blocks { W.ReadableShelf.blocks shelf.old ≡ frame.blocks }
-    ensures did { WriteDone (write_call (setup frame C.Checksum.marked C.Checksum.meaning) (W.ReadableShelf.holds shelf.old) (slots_in states.now) address payload.now owner way findings.old) (W.WritableShelf.conduct shelf.old) (W.WritableShelf.conduct shelf.new) result findings.new }
-    ensures cards { W.ReadableShelf.cards shelf.new ≡ W.ReadableShelf.cards shelf.old }
-    ensures blocks { W.ReadableShelf.blocks shelf.new ≡ W.ReadableShelf.blocks shelf.old }
+    requires cards { W.cards shelf.old ≡ frame.width + 1 }
+    requires blocks { W.blocks shelf.old ≡ frame.blocks }
+    ensures did { WriteDone (write_call (setup frame C.marked C.meaning) (W.holds shelf.old) (slots_in states.now) address payload.now owner way findings.old) (W.conduct shelf.old) (W.conduct shelf.new) result findings.new }
+    ensures cards { W.cards shelf.new ≡ W.cards shelf.old }
+    ensures blocks { W.blocks shelf.new ≡ W.blocks shelf.old }
 {
     if payload.len() != 80 {
         return Err(Refusal::Length);
