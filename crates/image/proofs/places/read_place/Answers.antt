@@ -10,7 +10,7 @@ use Rattle.image.proofs.places.read_place.Goals as goal
 
 pub returns-in_err-check_place : goal.returns-in_err-check_place
 returns-in_err-check_place c =
-    let p = err_from_is_err_and c.from-residual.result c.from-residual.ensures.1 in
+    let p = err_from_is_err_and c.from_residual.result c.from_residual.ensures.1 in
     let e = c.in_err-check_place.ensures.answer in
     rw (p.1, p.2) record { answer = read_refused _ _ _ _ _ _ _ _ e; buffer = buffer_refused _ _ _ _ _ _ _ _ e }
 

@@ -11,7 +11,7 @@ use Rattle.image.proofs.places.write_place.Goals as goal
 
 pub returns-in_err-check_place : goal.returns-in_err-check_place
 returns-in_err-check_place c =
-    let p = err_from_is_err_and c.from-residual.result c.from-residual.ensures.1 in
+    let p = err_from_is_err_and c.from_residual.result c.from_residual.ensures.1 in
     let e = c.in_err-check_place.ensures.answer in
     let k = image_conduct (cards_of c.args.extent) (blocks_of c.args.extent) (vec_items c.args.image.now) in
     rw (p.1, p.2) record { answer = e; wrote = ap (after_all k) (none_taken _ _ _ _ _ _ _ e); len = refl }
