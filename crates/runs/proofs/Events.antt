@@ -68,13 +68,13 @@ event_is E σ d e x h = allowed_is (next_state (all_in_below (E.D + 1) σ) E.S (
     go true h = h
     go false h = absurd (not_ok Place x h)
 
-is_ok : {T : Type 0} (y : Result T Refusal) → is_ok y ≡ true → (x : T) × (y ≡ Ok x)
-is_ok (Ok x) t = (x, refl)
-is_ok (Err r) t = absurd (both_ways false refl t)
+ok_part : {T : Type 0} (y : Result T Refusal) → is_ok y ≡ true → (x : T) × (y ≡ Ok x)
+ok_part (Ok x) t = (x, refl)
+ok_part (Err r) t = absurd (both_ways false refl t)
 
 pub accepted_fit : (E : Setup) (σ : Slots) (d : ℕ) → is_ok (event_state E σ d Fit) ≡ true → σ d ≡ Out
 accepted_fit E σ d t =
-    let y = is_ok (event_state E σ d Fit) t in
+    let y = ok_part (event_state E σ d Fit) t in
     fit_out (all_in_below (E.D + 1) σ) E.S (σ d) y.0 (event_is E σ d Fit y.0 y.1)
 
 -- the array's slots and the book's stay the same
