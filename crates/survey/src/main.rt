@@ -32,14 +32,14 @@ fn parse_sum(text: &str) -> anyhow::Result<Sum> {
     match text {
         "fletcher" => Ok(Sum::Fletcher),
         "turn" => Ok(Sum::Turning),
-        _ => Err(USAGE.into()),
+        _ => Err(anyhow!(USAGE)),
     }
 }
 
 fn parse_number(text: &str) -> anyhow::Result<u32> {
     match text.parse::<u32>() {
         Ok(n) => Ok(n),
-        Err(_) => Err(USAGE.into()),
+        Err(_) => Err(anyhow!(USAGE)),
     }
 }
 
@@ -93,7 +93,7 @@ fn run(rt: &HostRuntime) -> anyhow::Result<()> {
         return demo::run(rt);
     }
     if words.len() != 6 {
-        return Err(USAGE.into());
+        return Err(anyhow!(USAGE));
     }
     let told = parse_told(
         words[2].as_str(),
