@@ -108,9 +108,5 @@ fn run(rt: &HostRuntime) -> anyhow::Result<()> {
 }
 
 fn main(rt: HostRuntime) -> anyhow::Result<()> {
-    let ended = run(&rt);
-    if let Err(error) = &ended {
-        eprintln!(rt; "{error}")?;
-    }
-    ended
+    run(&rt)
 }

@@ -11,7 +11,7 @@ returns-then-slot-frame g c =
     let s = c.args.self.now in
     let cards = g.W.ReadableShelf.cards s.shelf in
     let E : Setup = setup_on cards (g.W.ReadableShelf.blocks s.shelf) s.tag g.C.Checksum.marked g.C.Checksum.meaning in
-    let h : cards - 1 < c.args.slot = omega (arith, c.own-frame-frame.ensures.width) in
+    let h : cards - 1 < c.args.slot = omega (arith, c.own_frame-frame.ensures.width) in
     let off = off_place E (slots_in s.states) c.args.slot c.args.event h in
     record {
       answer = sym (ap (answered tt) off);
@@ -25,14 +25,14 @@ returns-then-slot-frame g c =
 pub returns : goal.returns
 returns g c =
     let s = c.args.self.now in
-    let f = c.own-frame-frame.result in
+    let f = c.own_frame-frame.result in
     let cards = g.W.ReadableShelf.cards s.shelf in
     let E : Setup = setup_on cards (g.W.ReadableShelf.blocks s.shelf) s.tag g.C.Checksum.marked g.C.Checksum.meaning in
-    let w : f.width ≡ cards - 1 = omega (arith, c.own-frame-frame.ensures.width) in
-    let on = on_place E f.width f.blocks (slots_in s.states) c.args.slot c.args.event w c.own-frame-frame.ensures.blocks (omega arith) in
+    let w : f.width ≡ cards - 1 = omega (arith, c.own_frame-frame.ensures.width) in
+    let on = on_place E f.width f.blocks (slots_in s.states) c.args.slot c.args.event w c.own_frame-frame.ensures.blocks (omega arith) in
     record {
-      answer = c.turn-slot.ensures.answer ∙ ap (answered tt) on;
-      slots = c.turn-slot.ensures.slots ∙ ap (slots_by (slots_in s.states) c.args.slot) on;
+      answer = c.turn_slot.ensures.answer ∙ ap (answered tt) on;
+      slots = c.turn_slot.ensures.slots ∙ ap (slots_by (slots_in s.states) c.args.slot) on;
       shelf = refl;
       tag = refl;
       cursor = refl;
