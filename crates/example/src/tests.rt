@@ -43,7 +43,7 @@ fn write_and_read(
     let switch = Switch { mending: true };
     let answer = array.read(1, 5, &switch, &mut found, &mut rebuilt, &mut findings)?;
     let payload = show(answer.source, &found, &rebuilt)?;
-    assert!(rt; payload == &[7u8; 80]);
+    assert!(rt; payload == [7u8; 80].as_slice());
     assert!(rt; found[81] == 3);
     Ok(())
 }
