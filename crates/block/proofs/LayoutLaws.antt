@@ -1,5 +1,5 @@
 -- Rows of numbers as bytes. Assumes nothing.
-use Rattle.std.proofs.Common.{◌≡◌, ℕ, zero, suc, ◌+◌, ◌*◌, ◌/◌, ◌%◌, ◌^◌, ◌<◌, ◌≤◌, List, [], ◌∷◌, ◌++◌, length, get_or, take, drop, sym, refl, ap, ◌∙◌, subst, arith}
+use Rattle.std.proofs.Common.{◌≡◌, ℕ, ◌+◌, ◌*◌, ◌/◌, ◌%◌, ◌^◌, ◌<◌, List, [], ◌∷◌, ◌++◌, length, get_or, take, sym, refl, ap, ◌∙◌, subst, arith}
 use lib.Lanes.{Each1}
 use Rattle.std.proofs.lemmas.List.{take_more, take_at, append_assoc, length-append, get_or-append-add}
 use Rattle.std.proofs.lemmas.Nat.{shr-shr, div-add-mod'}

@@ -1,5 +1,5 @@
 -- A sealed block that was hit in one byte is no longer sealed. Assumes nothing.
-use Rattle.std.proofs.Common.{◌≡◌, ℕ, zero, suc, ◌+◌, ◌<◌, ◌≤◌, true, not, ◌⊎◌, List, [], ◌∷◌, length, get_or, take, drop, set, sym, refl, ap, ◌∙◌, inl, inr, ⊎_elim, arith, length-set, ne_eqb}
+use Rattle.std.proofs.Common.{◌≡◌, ℕ, zero, suc, ◌<◌, true, not, ◌⊎◌, List, [], ◌∷◌, length, get_or, take, drop, set, sym, refl, ap, ◌∙◌, inl, inr, ⊎_elim, arith, length-set, ne_eqb}
 use Rattle.std.proofs.lemmas.List.{get_or-drop, length-take-le, length-drop}
 use Rattle.checksum.specs.Rows.{Bytes, Row, OneApart, word_at}
 use Rattle.block.specs.Judging.{RightSum, broken_by}

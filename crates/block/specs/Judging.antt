@@ -1,5 +1,5 @@
 -- The block that a place requires, and the judging of a block alone.
-use Rattle.std.specs.Prelude.{◌≡◌, ℕ, zero, suc, ◌+◌, ◌-◌, Bool, true, cond, not, ◌&&◌, List, [], ◌∷◌, length, take, ◌==◌, slice_index}
+use Rattle.std.specs.Prelude.{◌≡◌, ℕ, zero, suc, ◌+◌, ◌-◌, Bool, true, cond, not, ◌&&◌, List, length, take, ◌==◌, slice_index}
 use Rattle.checksum.specs.Rows.{word_at, Bytes as BytesOnly}
 use Rattle.block.specs.declared.frame.Frame.{Frame}
 use Rattle.block.specs.declared.shapes.Cell.{Cell}

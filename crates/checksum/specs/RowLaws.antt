@@ -1,7 +1,6 @@
 -- The words of a row, and the row that a block begins with. Assumes nothing.
 use Rattle.std.specs.Prelude.{◌≡◌, ℕ, ◌+◌, ◌*◌, ◌/◌, ◌%◌, ◌<◌, ◌≤◌, List, [], ◌∷◌, length, take, drop, slice_index, slice_index_or, refl}
 use Rattle.std.proofs.Common.{ap, ◌∙◌, arith}
-use Rattle.std.specs.Simd.Lanes.{Each1}
 use Rattle.std.proofs.lemmas.List.{drop_all, drop_more, get_or-take, length-take-le}
 use Rattle.std.proofs.lemmas.Simd.{Each1-from_get_or}
 use Rattle.checksum.specs.Rows.{Bytes, Row, halves, words, split, word_at}

@@ -11,7 +11,7 @@ use Rattle.std.proofs.lemmas.List.Edits.{length-paste}
 use Rattle.std.proofs.lemmas.Bool.{and_parts, and_from, ltb-true, lt-ltb, eqb-true, eq-eqb, cond-true, cond_both, cases_order}
 use Rattle.std.proofs.lemmas.Nat.{div-mul-add, mod-mul-add}
 use Rattle.block.specs.declared.shapes.Cell.TheVariants.{Nothing, Bytes}
-use Rattle.shelf.specs.Model.{Write, write_of, OwnCard, Faithful}
+use Rattle.shelf.specs.Model.{Write, OwnCard, Faithful}
 use Rattle.image.specs.Sized.{place_lt, content_in}
 use Rattle.image.specs.Layout.{accepts, cell_at, content_of, put_at, stored, replayed, image_conduct}
 use Rattle.image.specs.Seen.{cell_present}

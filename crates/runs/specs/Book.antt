@@ -1,6 +1,6 @@
 -- The plain book: what was last accepted at each address, and the state of each slot.
 -- It is fed each call's arguments and whether the call was accepted, and copies nothing of the array.
-use Rattle.std.specs.Prelude.{◌≡◌, ℕ, suc, ◌+◌, ◌*◌, ◌^◌, ◌<◌, Bool, cond, List, length, replicate, ◌==◌, nat_lt, slice_index}
+use Rattle.std.specs.Prelude.{◌≡◌, ℕ, suc, ◌+◌, ◌*◌, ◌^◌, ◌<◌, cond, List, length, replicate, ◌==◌, nat_lt, slice_index}
 use Rattle.block.specs.declared.shapes.Role.{Role}
 use Rattle.block.specs.declared.shapes.Role.TheVariants.{Parity, Data}
 use Rattle.block.specs.Judging.{Setup, block_with}

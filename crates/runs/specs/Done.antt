@@ -7,8 +7,6 @@ use Rattle.stripe.specs.View.{Slots}
 use Rattle.runs.specs.declared.shapes.LookAnswer.{LookAnswer}
 use Rattle.runs.specs.declared.shapes.Patch.{Patch}
 use Rattle.runs.specs.declared.shapes.ReadAnswer.{ReadAnswer}
-use Rattle.runs.specs.declared.shapes.RebuildCounts.{RebuildCounts}
-use Rattle.runs.specs.declared.shapes.ScrubCounts.{ScrubCounts}
 use Rattle.runs.specs.declared.shapes.WriteAnswer.{WriteAnswer}
 use Rattle.runs.specs.Looks.{Looking}
 use Rattle.runs.specs.Reads.{Reading}

@@ -1,6 +1,5 @@
 -- How a read obtains a block from a stripe.
 use Rattle.std.specs.Prelude.{ℕ, ◌+◌, Bool, false, cond, List, [], ◌∷◌, Some, None, Option, ◌==◌}
-use Rattle.block.specs.declared.shapes.Role.{Role}
 use Rattle.block.specs.declared.shapes.Role.TheVariants.{Parity, Data}
 use Rattle.block.specs.declared.shapes.Verdict.{Verdict}
 use Rattle.block.specs.declared.shapes.Verdict.TheVariants.{Unfit, Readable}

@@ -4,7 +4,7 @@ use Rattle.block.specs.declared.refusal.Refusal.TheVariants.{Lost}
 use Rattle.block.specs.declared.shapes.Cell.TheVariants.{Bytes}
 use Rattle.block.specs.declared.shapes.Defect.TheVariants.{Broken}
 use Rattle.block.specs.declared.shapes.Role.{Role}
-use Rattle.block.specs.declared.shapes.Role.TheVariants.{Parity, Data}
+use Rattle.block.specs.declared.shapes.Role.TheVariants.{Data}
 use Rattle.block.specs.declared.shapes.Verdict.TheVariants.{Unfit}
 use Rattle.block.specs.Judging.{Setup, alone}
 use Rattle.block.specs.Places.{slot_of}

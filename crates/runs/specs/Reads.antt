@@ -1,5 +1,5 @@
 -- What a read answers, and leaves.
-use Rattle.std.specs.Prelude.{◌≡◌, ℕ, ◌+◌, Bool, cond, ◌&&◌, List, [], length, take, replicate, Some, None, Ok, Err, Option, Result, ◌==◌, nat_lt}
+use Rattle.std.specs.Prelude.{ℕ, ◌+◌, Bool, cond, ◌&&◌, List, [], length, take, replicate, Some, None, Ok, Err, Option, Result, ◌==◌, nat_lt}
 use Rattle.block.specs.declared.refusal.Refusal.{Refusal}
 use Rattle.block.specs.declared.refusal.Refusal.TheVariants.{Length, Lost as IsLost, OtherOwner}
 use Rattle.block.specs.declared.shapes.Position.{Position}

@@ -1,5 +1,5 @@
 -- Runs: lists of calls and damage, beside which the book goes.
-use Rattle.std.specs.Prelude.{◌≡◌, ℕ, suc, ◌+◌, ◌*◌, ◌/◌, ◌%◌, ◌^◌, ◌<◌, ◌≤◌, Bool, true, false, cond, ◌⊎◌, List, [], length, Some, None, Ok, Err, Option, Result, ◌≢◌, nat_le, nat_lt, slice_index}
+use Rattle.std.specs.Prelude.{◌≡◌, ℕ, ◌+◌, ◌^◌, ◌<◌, ◌≤◌, Bool, true, false, cond, ◌⊎◌, List, [], Some, None, Ok, Err, Option, Result, ◌≢◌, nat_le, nat_lt, slice_index}
 use Rattle.block.specs.declared.refusal.Refusal.{Refusal}
 use Rattle.block.specs.declared.shapes.Cell.{Cell}
 use Rattle.block.specs.declared.shapes.Cell.TheVariants.{Bytes}

@@ -10,7 +10,7 @@ use Rattle.stripe.specs.declared.shapes.Decision.TheVariants.{Clean as NoneBad, 
 use Rattle.stripe.specs.declared.shapes.Finding.{Finding}
 use Rattle.stripe.specs.Findings.{findings_all}
 use Rattle.stripe.specs.Judge.{decision}
-use Rattle.stripe.specs.View.{Slots, View, takes_at, view_of}
+use Rattle.stripe.specs.View.{Slots, takes_at, view_of}
 use Rattle.runs.specs.declared.shapes.ScrubCounts.{ScrubCounts}
 use Rattle.runs.specs.declared.shapes.Swept.{Swept}
 use Rattle.runs.specs.declared.shapes.Swept.TheVariants.{Clean, Mended, Short, Lost}

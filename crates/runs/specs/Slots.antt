@@ -2,7 +2,6 @@
 use Rattle.std.specs.Prelude.{ℕ, zero, suc, ◌+◌, Bool, true, false, cond, ◌&&◌, List, [], ◌∷◌, Some, None, Ok, Err, Option, Result, ◌==◌, nat_le, nat_lt}
 use Rattle.block.specs.declared.refusal.Refusal.{Refusal}
 use Rattle.block.specs.declared.refusal.Refusal.TheVariants.{Place, SlotState as NotAllowed}
-use Rattle.block.specs.declared.shapes.Role.{Role}
 use Rattle.block.specs.Judging.{Setup}
 use Rattle.block.specs.Places.{slot_of}
 use Rattle.shelf.specs.Model.{Conduct, Content, Write, after_all, write_of}

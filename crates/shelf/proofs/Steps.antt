@@ -1,12 +1,12 @@
 -- What the promises of a shelf come to at a place that it has. Assumes nothing.
-use Rattle.std.proofs.Common.{◌≡◌, ℕ, ◌<◌, Bool, true, cond, ◌&&◌, eqb, ltb, List, [], ◌∷◌, ◌++◌, length, Ok, Err, Result, sym, refl, ap, ◌∙◌, subst, arith}
+use Rattle.std.proofs.Common.{◌≡◌, ℕ, ◌<◌, true, List, [], ◌∷◌, length, Ok, Err, Result, refl, ap, ◌∙◌, arith}
 use Rattle.std.proofs.lemmas.Bool.{cond-true, and_from, lt-ltb, eq-eqb}
 use Rattle.block.specs.declared.shapes.Cell.{Cell}
 use Rattle.block.specs.declared.shapes.Cell.TheVariants.{Bytes, Nothing}
 use Rattle.shelf.specs.declared.Sight.{Sight}
 use Rattle.shelf.specs.declared.Sight.TheVariants.{Present, Blind}
 use Rattle.block.specs.declared.refusal.Refusal.{Refusal}
-use Rattle.shelf.specs.Model.{Content, Write, write_of, inside, sight_of, shown_of, read_answer, read_buffer, writes_taken}
+use Rattle.shelf.specs.Model.{Content, write_of, inside, sight_of, shown_of, read_answer, read_buffer, writes_taken}
 
 module _ (n s i j : ℕ) (hi : i < n) (hj : j < s) where
   within : inside n s i j ≡ true

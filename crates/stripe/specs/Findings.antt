@@ -1,5 +1,5 @@
 -- What is found at each place of a stripe.
-use Rattle.std.specs.Prelude.{ℕ, zero, suc, ◌+◌, Bool, true, false, cond, ◌||◌, List, ℤ, pos, ◌-ℤ◌, Some, None, Option, ◌==◌, int_lt, nat_le}
+use Rattle.std.specs.Prelude.{ℕ, zero, suc, Bool, false, cond, ◌||◌, List, ℤ, pos, ◌-ℤ◌, Some, None, Option, ◌==◌, int_lt, nat_le}
 use Rattle.block.specs.declared.shapes.Defect.{Defect}
 use Rattle.block.specs.declared.shapes.Defect.TheVariants.{Blind, Broken, Foreign}
 use Rattle.block.specs.declared.shapes.Role.{Role}

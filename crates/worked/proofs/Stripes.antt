@@ -1,5 +1,5 @@
 -- The worked cases of a stripe on three cards. Assumes nothing.
-use Rattle.std.proofs.Common.{◌≡◌, ℕ, Bool, true, false, cond, not, ◌&&◌, ◌||◌, eqb, ltb, List, [], ◌∷◌, take, replicate, sym, refl, ap, ◌∙◌, ap₂}
+use Rattle.std.proofs.Common.{◌≡◌, ℕ, Bool, false, cond, ◌||◌, eqb, ltb, List, [], ◌∷◌, replicate, refl, ap, ◌∙◌, ap₂}
 use Rattle.block.specs.declared.shapes.Defect.TheVariants.{Broken, Foreign}
 use Rattle.block.specs.declared.shapes.Role.{Role}
 use Rattle.block.specs.declared.shapes.Role.TheVariants.{Parity, Data}
@@ -8,15 +8,10 @@ use Rattle.block.specs.declared.shapes.Verdict.TheVariants.{Unfit, Readable}
 use Rattle.block.specs.Judging.{Setup, broken_by, marks_fit, native_block, judged}
 use Rattle.block.specs.Places.{role_at}
 use Rattle.checksum.specs.Fletcher.{fletcher}
-use Rattle.stripe.specs.declared.shapes.Decision.{Decision}
-use Rattle.stripe.specs.declared.shapes.Decision.TheVariants.{Clean, Only, Lost as TwoBad}
 use Rattle.stripe.specs.Judge.{lags_at, leads_at, any_lead, parity_bad, bad_role, bad_slots, mask_number, ones_in, only_role, decided, decision}
 use Rattle.stripe.specs.Masks.{mask_of, count_true, first_true}
-use Rattle.stripe.specs.Mend.{mended}
 use Rattle.stripe.specs.View.{View}
 use Rattle.runs.specs.declared.shapes.Gathered.{Gathered}
-use Rattle.runs.specs.declared.shapes.Obtained.{Obtained}
-use Rattle.runs.specs.declared.shapes.Obtained.TheVariants.{Lost, Found, Rebuilt}
 use Rattle.runs.specs.Gather.{quick, patch_by, patch_of, as_found, as_rebuilt, gathered_quick, gathered_all, gathered}
 use Rattle.worked.specs.Cases.{Mirrored, three_cards}
 

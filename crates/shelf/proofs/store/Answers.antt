@@ -1,4 +1,4 @@
-use Rattle.std.proofs.Common.{◌≡◌, sym, ap, ◌∙◌, rules}
+use Rattle.std.proofs.Common.{ap, ◌∙◌, rules}
 use Rattle.shelf.specs.Model.{after_all}
 use Rattle.shelf.proofs.Steps.{taken}
 use Rattle.shelf.proofs.store.Goals as goal

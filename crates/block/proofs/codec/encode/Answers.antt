@@ -1,4 +1,4 @@
-use Rattle.std.proofs.Common.{◌≡◌, ap, ◌∙◌}
+use Rattle.std.proofs.Common.{ap, ◌∙◌}
 use Rattle.block.specs.Layout.{decoded}
 use Rattle.block.proofs.LayoutLaws.{there_and_back}
 use Rattle.block.proofs.codec.encode.Goals as goal

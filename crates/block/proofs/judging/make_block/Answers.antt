@@ -1,4 +1,3 @@
-use Rattle.std.proofs.Common.{◌≡◌}
 use Rattle.block.specs.Judging.{block_with}
 use Rattle.block.proofs.judging.make_block.Goals as goal
 

@@ -1,4 +1,3 @@
-use mathlib.Core.Path.{◌≡◌}
 use Rattle.stripe.specs.View.{as_view}
 use Rattle.stripe.proofs.Leads.{greatest_more, greatest_none}
 use Rattle.findings.proofs.findings.greatest_lead.Goals as goal

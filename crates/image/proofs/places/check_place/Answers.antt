@@ -1,4 +1,4 @@
-use Rattle.std.proofs.Common.{◌≡◌, sym}
+use Rattle.std.proofs.Common.{sym}
 use Rattle.image.proofs.Named.{refused_length, refused_slot, refused_block, accepted}
 use Rattle.image.proofs.places.check_place.Goals as goal
 use Rattle.image.proofs.places.check_place.Goals.{then-slot-cards-via-then-slot-cards, then-slot-cards-via-else-slot-cards+then-block-blocks}

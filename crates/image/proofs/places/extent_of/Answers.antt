@@ -1,4 +1,4 @@
-use Rattle.std.proofs.Common.{◌≡◌, ◌*◌, sym, ap, ◌∙◌, ap₂}
+use Rattle.std.proofs.Common.{◌*◌, sym, ap, ◌∙◌, ap₂}
 use Rattle.image.proofs.Refusing.{refused_shape, refused_by_bytes, full}
 use Rattle.image.proofs.places.extent_of.Goals as goal
 

@@ -1,4 +1,4 @@
-use Rattle.std.proofs.Common.{◌≡◌, Ok, sym, ap, ◌∙◌, ap₂}
+use Rattle.std.proofs.Common.{Ok, sym, ap, ◌∙◌, ap₂}
 use Rattle.std.proofs.lemmas.Result.{err_from_is_err_and}
 use Rattle.shelf.specs.Model.{sight_of, shown_of}
 use Rattle.shelf.proofs.Steps.{answered, filled}

@@ -1,4 +1,3 @@
-use Rattle.std.proofs.Common.{◌≡◌}
 use Rattle.stripe.specs.Mend.{mended}
 use Rattle.mending.proofs.mend.mended_block.Goals as goal
 

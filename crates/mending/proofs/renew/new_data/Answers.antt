@@ -1,4 +1,3 @@
-use Rattle.std.proofs.Common.{◌≡◌}
 use Rattle.stripe.specs.Renew.{new_data}
 use Rattle.mending.proofs.renew.new_data.Goals as goal
 

@@ -1,4 +1,3 @@
-use Rattle.std.proofs.Common.{◌≡◌}
 use Rattle.stripe.specs.Renew.{new_parity}
 use Rattle.mending.proofs.renew.new_parity.Goals as goal
 

@@ -1,4 +1,4 @@
-use Rattle.std.proofs.Common.{◌≡◌, ℕ, List, Some, Option, sym, ap, ◌∙◌, ap₂, arith}
+use Rattle.std.proofs.Common.{ℕ, List, Some, Option, sym, ap, ◌∙◌, ap₂, arith}
 use Rattle.block.specs.Judging.{setup}
 use Rattle.stripe.specs.View.{as_view}
 use Rattle.runs.specs.declared.shapes.Patch.{Patch}

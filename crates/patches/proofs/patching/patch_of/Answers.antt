@@ -1,4 +1,4 @@
-use Rattle.std.proofs.Common.{◌≡◌, ap, ◌∙◌}
+use Rattle.std.proofs.Common.{ap, ◌∙◌}
 use Rattle.runs.specs.Gather.{patch_of, patch_by}
 use Rattle.patches.proofs.patching.patch_of.Goals as goal
 

@@ -1,4 +1,4 @@
-use Rattle.std.proofs.Common.{◌≡◌, ap, ◌∙◌, arith}
+use Rattle.std.proofs.Common.{ap, arith}
 use Rattle.block.specs.Judging.{setup}
 use Rattle.report.specs.Reports.{report_by}
 use Rattle.stripe.proofs.OnShelf.{held_view}

@@ -1,4 +1,4 @@
-use Rattle.std.proofs.Common.{◌≡◌, sym, ap, ◌∙◌, arith}
+use Rattle.std.proofs.Common.{sym, ap, ◌∙◌, arith}
 use Rattle.block.specs.Judging.{setup}
 use Rattle.stripe.specs.View.{slots_in}
 use Rattle.runs.specs.Gather.{patch_of}

@@ -1,4 +1,4 @@
-use Rattle.std.proofs.Common.{◌≡◌, ◌+◌}
+use Rattle.std.proofs.Common.{◌≡◌}
 use Rattle.block.specs.Judging.{setup}
 use Rattle.stripe.specs.View.{slots_in}
 use Rattle.runs.specs.Scrubs.{sweeps, scrub_start}

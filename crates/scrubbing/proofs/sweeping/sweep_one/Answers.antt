@@ -1,4 +1,4 @@
-use Rattle.std.proofs.Common.{◌≡◌, cond, List, sym, ap, ◌∙◌, ap₂, arith}
+use Rattle.std.proofs.Common.{cond, List, sym, ap, ◌∙◌, ap₂, arith}
 use Rattle.block.specs.Judging.{setup}
 use Rattle.shelf.specs.Model.{after_all}
 use Rattle.stripe.specs.declared.shapes.Finding.{Finding}

@@ -1,6 +1,5 @@
-use Rattle.std.proofs.Common.{◌≡◌, sym}
+use Rattle.std.proofs.Common.{sym}
 use Rattle.block.specs.Judging.{setup}
-use Rattle.stripe.specs.View.{slots_in}
 use Rattle.stripe.proofs.Views.{view_out}
 use Rattle.stripe.proofs.looks.judge_data.Goals as goal
 

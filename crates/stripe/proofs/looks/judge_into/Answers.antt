@@ -1,4 +1,3 @@
-use Rattle.std.proofs.Common.{◌≡◌}
 use Rattle.block.specs.Judging.{setup}
 use Rattle.stripe.specs.View.{slots_in}
 use Rattle.stripe.proofs.Views.{has_placed, view_in}

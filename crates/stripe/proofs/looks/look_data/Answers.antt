@@ -1,4 +1,4 @@
-use Rattle.std.proofs.Common.{◌≡◌, refl, ap₂, arith}
+use Rattle.std.proofs.Common.{arith}
 use Rattle.block.specs.declared.shapes.Defect.TheVariants.{Blind}
 use Rattle.block.specs.declared.shapes.Verdict.TheVariants.{Unfit}
 use Rattle.stripe.specs.View.{row_of}

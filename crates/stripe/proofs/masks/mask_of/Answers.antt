@@ -1,4 +1,4 @@
-use Rattle.std.proofs.Common.{◌≡◌, ◌∙◌, arith}
+use Rattle.std.proofs.Common.{◌∙◌, arith}
 use Rattle.stripe.proofs.MaskLaws.{mask_none, mask_yes, mask_no, mask_all}
 use Rattle.stripe.proofs.masks.mask_of.Goals as goal
 use Rattle.stripe.proofs.masks.mask_of.Goals.{then-bad_role, else-bad_role}

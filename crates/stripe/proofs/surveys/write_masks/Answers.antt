@@ -1,4 +1,4 @@
-use Rattle.std.proofs.Common.{◌≡◌, ap, ◌∙◌, arith}
+use Rattle.std.proofs.Common.{ap, ◌∙◌, arith}
 use Rattle.stripe.specs.Survey.{stripe_masks}
 use Rattle.stripe.proofs.OnShelf.{setup_on_lem}
 use Rattle.stripe.proofs.Rows.{filled_none, filled_more, filled_all}

@@ -1,4 +1,4 @@
-use Rattle.std.proofs.Common.{◌≡◌, ap, ◌∙◌}
+use Rattle.std.proofs.Common.{ap, ◌∙◌}
 use Rattle.block.specs.Judging.{setup}
 use Rattle.stripe.specs.declared.shapes.Stripe.{Stripe}
 use Rattle.stripe.specs.View.{as_view, slots_in}

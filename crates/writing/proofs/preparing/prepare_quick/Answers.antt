@@ -1,9 +1,8 @@
-use Rattle.std.proofs.Common.{◌≡◌, set, replicate, ap, ◌∙◌, arith, get_or-set_same}
+use Rattle.std.proofs.Common.{set, replicate, ap, ◌∙◌, arith, get_or-set_same}
 use Rattle.block.specs.declared.shapes.Defect.TheVariants.{Blind}
 use Rattle.block.specs.declared.shapes.Verdict.TheVariants.{Unfit}
 use Rattle.block.specs.Judging.{setup}
 use Rattle.stripe.specs.View.{as_view}
-use Rattle.writing.specs.declared.shapes.Prepared.{Prepared}
 use Rattle.writing.proofs.Two.{pair_two}
 use Rattle.writing.proofs.preparing.prepare_quick.Goals as goal
 

@@ -1,4 +1,4 @@
-use Rattle.std.proofs.Common.{◌≡◌, ◌∙◌, ap₂}
+use Rattle.std.proofs.Common.{◌∙◌, ap₂}
 use Rattle.block.specs.Judging.{setup}
 use Rattle.stripe.specs.View.{slots_in, view_of}
 use Rattle.runs.specs.Gather.{quick}

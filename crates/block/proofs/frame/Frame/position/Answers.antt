@@ -1,4 +1,4 @@
-use Rattle.std.proofs.Common.{◌≡◌, ◌*◌, ◌/◌, ◌%◌, ◌<◌, mod-lt, mul_comm, div-lt_iff_lt-mul, arith, rules}
+use Rattle.std.proofs.Common.{◌<◌, mod-lt, mul_comm, div-lt_iff_lt-mul, arith, rules}
 use Rattle.block.proofs.frame.Frame.position.Goals as goal
 
 pub returns-then-address-self : goal.returns-then-address-self
