@@ -4,24 +4,23 @@
 # edited program must be rejected with the error that the edit names. The program as it stands must be accepted.
 set -u
 cd "$(dirname "$0")/.."
-kit=$(dirname "$(dirname "$(rt doc)")")
 work=$(mktemp -d)
 trap 'rm -rf "$work"' EXIT
 
-# Compiles the program parking from the copy in $work, with every library of the repository as source.
+# Compiles the program parking from the copy in $work, and runs it if it compiles; nothing is proved.
 compile() {
-    local args=("$work/crates/parking/src/main.rt" --crate-name parking)
-    local name used
-    while IFS=: read -r name used; do
-        args+=(--lib "$name:$(echo $used | tr ' ' ,)=$kit/$name/src/lib.rt")
-    done <"$kit/libs.txt"
-    while IFS=: read -r name used; do
-        [ -f "$work/crates/$name/src/lib.rt" ] && args+=(--lib "$name=$work/crates/$name/src/lib.rt")
-    done < <(sed -e 's/#.*//' -e '/^[[:space:]]*$/d' crates.txt)
-    "$kit/bin/rattle-print-mir" "${args[@]}" >/dev/null 2>"$work/errors"
+    (cd "$work/crates/parking" && rt try) >"$work/errors" 2>&1
 }
 
-cp -r crates "$work/crates"
+cp crates.txt "$work/"
+for dir in crates/*/; do
+    for part in src specs proofs; do
+        if [ -d "$dir$part" ]; then
+            mkdir -p "$work/$dir"
+            cp -r "$dir$part" "$work/$dir$part"
+        fi
+    done
+done
 if ! compile; then
     echo "parking itself is not compiled:"
     head -n 5 "$work/errors"
