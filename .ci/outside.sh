@@ -6,8 +6,7 @@ cd "$(dirname "$0")/.."
 seconds=${1:-30}
 log=$(mktemp)
 trap 'rm -f "$log"' EXIT
-# the crates below the boundary, as many at a time as there are processors, then the boundary itself
-if ! { rt check array && rt staticlib boundary; } >"$log" 2>&1; then
+if ! (cd crates/boundary && rt lib) >"$log" 2>&1; then
     tail -n 20 "$log"
     echo "the library boundary is not proved"
     exit 1

@@ -1,6 +1,6 @@
 //! Links the static library `boundary` and the C code of its kit, if the feature `boundary` is on.
 //!
-//! `CARDS_LIB_DIR` names the folder of `libboundary.a`, `CARDS_KIT_LIB` that of `librattle_c.a`.
+//! `CARDS_LIB_DIR` names the folder of `libboundary.a`, `CARDS_KIT_LIB` that of `liblibc_c.a`.
 
 use std::env;
 use std::path::PathBuf;
@@ -11,10 +11,10 @@ fn main() {
         return;
     }
     let manifest = PathBuf::from(env::var_os("CARGO_MANIFEST_DIR").expect("cargo sets the manifest's folder"));
-    let boundary = folder("CARDS_LIB_DIR").unwrap_or_else(|| manifest.join("../target/staticlib"));
-    let kit = folder("CARDS_KIT_LIB").unwrap_or_else(|| PathBuf::from("/opt/rattle/lib"));
+    let boundary = folder("CARDS_LIB_DIR").unwrap_or_else(|| manifest.join("../crates/boundary/out"));
+    let kit = folder("CARDS_KIT_LIB").unwrap_or_else(|| PathBuf::from("/opt/rattle/c"));
     link(boundary, "boundary");
-    link(kit, "rattle_c");
+    link(kit, "libc_c");
 }
 
 fn folder(variable: &str) -> Option<PathBuf> {
