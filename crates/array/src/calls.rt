@@ -33,7 +33,7 @@ impl<W: WritableShelf, C: Checksum> Array<W, C> {
         rebuilt: &mut [u8],
         findings: &mut [Finding; 8],
     ) -> Result<ReadAnswer, Refusal>
-        ensures done { ReadDone (read_call (setup_on (W.cards self.old.shelf) (W.blocks self.old.shelf) self.old.tag C.marked C.meaning) (W.holds self.old.shelf) (slots_in self.old.states) self.old.tally address owner switch.now.mending found.old rebuilt.old findings.old) (W.conduct self.old.shelf) (W.conduct self.new.shelf) result found.new rebuilt.new findings.new self.new.tally }
+        ensures done { ReadDone (read_call (setup_on (W.cards self.old.shelf) (W.blocks self.old.shelf) self.old.tag C.MARK C.meaning) (W.holds self.old.shelf) (slots_in self.old.states) self.old.tally address owner switch.now.mending found.old rebuilt.old findings.old) (W.conduct self.old.shelf) (W.conduct self.new.shelf) result found.new rebuilt.new findings.new self.new.tally }
         ensures cards { W.cards self.new.shelf ≡ W.cards self.old.shelf }
         ensures blocks { W.blocks self.new.shelf ≡ W.blocks self.old.shelf }
         ensures tag { self.new.tag ≡ self.old.tag }
@@ -64,7 +64,7 @@ impl<W: WritableShelf, C: Checksum> Array<W, C> {
         way: Way,
         findings: &mut [Finding; 8],
     ) -> Result<WriteAnswer, Refusal>
-        ensures done { WriteDone (write_call (setup_on (W.cards self.old.shelf) (W.blocks self.old.shelf) self.old.tag C.marked C.meaning) (W.holds self.old.shelf) (slots_in self.old.states) address payload.now owner way findings.old) (W.conduct self.old.shelf) (W.conduct self.new.shelf) result findings.new }
+        ensures done { WriteDone (write_call (setup_on (W.cards self.old.shelf) (W.blocks self.old.shelf) self.old.tag C.MARK C.meaning) (W.holds self.old.shelf) (slots_in self.old.states) address payload.now owner way findings.old) (W.conduct self.old.shelf) (W.conduct self.new.shelf) result findings.new }
         ensures cards { W.cards self.new.shelf ≡ W.cards self.old.shelf }
         ensures blocks { W.blocks self.new.shelf ≡ W.blocks self.old.shelf }
         ensures tag { self.new.tag ≡ self.old.tag }
@@ -92,8 +92,8 @@ impl<W: WritableShelf, C: Checksum> Array<W, C> {
         stripes: u32,
         findings: &mut [Finding; 8],
     ) -> Result<ScrubCounts, Refusal>
-        ensures answer { result ≡ scrub_answer (setup_on (W.cards self.old.shelf) (W.blocks self.old.shelf) self.old.tag C.marked C.meaning) (W.conduct self.old.shelf) (slots_in self.old.states) self.old.cursor stripes findings.old }
-        ensures done { ScrubDone (scrub_end (setup_on (W.cards self.old.shelf) (W.blocks self.old.shelf) self.old.tag C.marked C.meaning) (W.conduct self.old.shelf) (slots_in self.old.states) self.old.cursor stripes findings.old) (W.conduct self.new.shelf) self.new.cursor findings.new }
+        ensures answer { result ≡ scrub_answer (setup_on (W.cards self.old.shelf) (W.blocks self.old.shelf) self.old.tag C.MARK C.meaning) (W.conduct self.old.shelf) (slots_in self.old.states) self.old.cursor stripes findings.old }
+        ensures done { ScrubDone (scrub_end (setup_on (W.cards self.old.shelf) (W.blocks self.old.shelf) self.old.tag C.MARK C.meaning) (W.conduct self.old.shelf) (slots_in self.old.states) self.old.cursor stripes findings.old) (W.conduct self.new.shelf) self.new.cursor findings.new }
         ensures cards { W.cards self.new.shelf ≡ W.cards self.old.shelf }
         ensures blocks { W.blocks self.new.shelf ≡ W.blocks self.old.shelf }
         ensures tag { self.new.tag ≡ self.old.tag }
@@ -113,8 +113,8 @@ impl<W: WritableShelf, C: Checksum> Array<W, C> {
 
     // Rebuilds at most so many stripes of the job's slot, from where it stands.
     pub fn rebuild(&mut self, job: &RebuildJob, stripes: u32) -> Result<RebuildCounts, Refusal>
-        ensures answer { result ≡ rebuild_answer (setup_on (W.cards self.old.shelf) (W.blocks self.old.shelf) self.old.tag C.marked C.meaning) (W.conduct self.old.shelf) (slots_in self.old.states) job.now.slot stripes }
-        ensures done { RebuildDone (rebuild_end (setup_on (W.cards self.old.shelf) (W.blocks self.old.shelf) self.old.tag C.marked C.meaning) (W.conduct self.old.shelf) (slots_in self.old.states) job.now.slot stripes) (W.conduct self.new.shelf) (slots_in self.new.states) }
+        ensures answer { result ≡ rebuild_answer (setup_on (W.cards self.old.shelf) (W.blocks self.old.shelf) self.old.tag C.MARK C.meaning) (W.conduct self.old.shelf) (slots_in self.old.states) job.now.slot stripes }
+        ensures done { RebuildDone (rebuild_end (setup_on (W.cards self.old.shelf) (W.blocks self.old.shelf) self.old.tag C.MARK C.meaning) (W.conduct self.old.shelf) (slots_in self.old.states) job.now.slot stripes) (W.conduct self.new.shelf) (slots_in self.new.states) }
         ensures cards { W.cards self.new.shelf ≡ W.cards self.old.shelf }
         ensures blocks { W.blocks self.new.shelf ≡ W.blocks self.old.shelf }
         ensures tag { self.new.tag ≡ self.old.tag }
@@ -141,7 +141,7 @@ impl<W: WritableShelf, C: Checksum> Array<W, C> {
         switch: &mut Switch,
         out: &mut [u8],
     ) -> Result<LookAnswer, Refusal>
-        ensures done { LookDone (look_call (setup_on (W.cards self.old.shelf) (W.blocks self.old.shelf) self.old.tag C.marked C.meaning) (W.holds self.old.shelf) (slots_in self.old.states) self.old.tally first count owner out.old) result out.new self.new.tally }
+        ensures done { LookDone (look_call (setup_on (W.cards self.old.shelf) (W.blocks self.old.shelf) self.old.tag C.MARK C.meaning) (W.holds self.old.shelf) (slots_in self.old.states) self.old.tally first count owner out.old) result out.new self.new.tally }
         ensures switch { switch.new ≡ switch.old }
         ensures shelf { self.new.shelf ≡ self.old.shelf }
         ensures tag { self.new.tag ≡ self.old.tag }

@@ -35,8 +35,8 @@ pub struct RefusedJob {
 impl<W: WritableShelf, C: Checksum> Array<W, C> {
     // An event of a slot, on this shelf. A slot that the shelf has not is refused first.
     fn turn(&mut self, slot: u32, event: Event) -> Result<(), Refusal>
-        ensures answer { result ≡ answered tt (event_state (setup_on (W.cards self.old.shelf) (W.blocks self.old.shelf) self.old.tag C.marked C.meaning) (slots_in self.old.states) slot event) }
-        ensures slots { slots_in self.new.states ≡ event_slots (setup_on (W.cards self.old.shelf) (W.blocks self.old.shelf) self.old.tag C.marked C.meaning) (slots_in self.old.states) slot event }
+        ensures answer { result ≡ answered tt (event_state (setup_on (W.cards self.old.shelf) (W.blocks self.old.shelf) self.old.tag C.MARK C.meaning) (slots_in self.old.states) slot event) }
+        ensures slots { slots_in self.new.states ≡ event_slots (setup_on (W.cards self.old.shelf) (W.blocks self.old.shelf) self.old.tag C.MARK C.meaning) (slots_in self.old.states) slot event }
         ensures shelf { self.new.shelf ≡ self.old.shelf }
         ensures tag { self.new.tag ≡ self.old.tag }
         ensures cursor { self.new.cursor ≡ self.old.cursor }
@@ -51,8 +51,8 @@ impl<W: WritableShelf, C: Checksum> Array<W, C> {
 
     // Takes a card out, if every slot is in.
     pub fn pull(&mut self, slot: u32) -> Result<(), Refusal>
-        ensures answer { result ≡ answered tt (event_state (setup_on (W.cards self.old.shelf) (W.blocks self.old.shelf) self.old.tag C.marked C.meaning) (slots_in self.old.states) slot Event.Pull) }
-        ensures slots { slots_in self.new.states ≡ event_slots (setup_on (W.cards self.old.shelf) (W.blocks self.old.shelf) self.old.tag C.marked C.meaning) (slots_in self.old.states) slot Event.Pull }
+        ensures answer { result ≡ answered tt (event_state (setup_on (W.cards self.old.shelf) (W.blocks self.old.shelf) self.old.tag C.MARK C.meaning) (slots_in self.old.states) slot Event.Pull) }
+        ensures slots { slots_in self.new.states ≡ event_slots (setup_on (W.cards self.old.shelf) (W.blocks self.old.shelf) self.old.tag C.MARK C.meaning) (slots_in self.old.states) slot Event.Pull }
         ensures shelf { self.new.shelf ≡ self.old.shelf }
         ensures tag { self.new.tag ≡ self.old.tag }
         ensures cursor { self.new.cursor ≡ self.old.cursor }
@@ -63,8 +63,8 @@ impl<W: WritableShelf, C: Checksum> Array<W, C> {
 
     // Puts a card into a slot that is out, to be filled from block 0 on; answers the job.
     pub fn fit(&mut self, slot: u32) -> Result<RebuildJob, Refusal>
-        ensures answer { result ≡ answered (job_of slot) (event_state (setup_on (W.cards self.old.shelf) (W.blocks self.old.shelf) self.old.tag C.marked C.meaning) (slots_in self.old.states) slot Event.Fit) }
-        ensures slots { slots_in self.new.states ≡ event_slots (setup_on (W.cards self.old.shelf) (W.blocks self.old.shelf) self.old.tag C.marked C.meaning) (slots_in self.old.states) slot Event.Fit }
+        ensures answer { result ≡ answered (job_of slot) (event_state (setup_on (W.cards self.old.shelf) (W.blocks self.old.shelf) self.old.tag C.MARK C.meaning) (slots_in self.old.states) slot Event.Fit) }
+        ensures slots { slots_in self.new.states ≡ event_slots (setup_on (W.cards self.old.shelf) (W.blocks self.old.shelf) self.old.tag C.MARK C.meaning) (slots_in self.old.states) slot Event.Fit }
         ensures shelf { self.new.shelf ≡ self.old.shelf }
         ensures tag { self.new.tag ≡ self.old.tag }
         ensures cursor { self.new.cursor ≡ self.old.cursor }
@@ -78,8 +78,8 @@ impl<W: WritableShelf, C: Checksum> Array<W, C> {
 
     // Ends a job whose slot is filled to the last block: the card is in. A refused finish hands the job back.
     pub fn finish(&mut self, job: RebuildJob) -> Result<(), RefusedJob>
-        ensures answer { result ≡ finish_answer tt job (event_state (setup_on (W.cards self.old.shelf) (W.blocks self.old.shelf) self.old.tag C.marked C.meaning) (slots_in self.old.states) job.slot Event.Finish) }
-        ensures slots { slots_in self.new.states ≡ event_slots (setup_on (W.cards self.old.shelf) (W.blocks self.old.shelf) self.old.tag C.marked C.meaning) (slots_in self.old.states) job.slot Event.Finish }
+        ensures answer { result ≡ finish_answer tt job (event_state (setup_on (W.cards self.old.shelf) (W.blocks self.old.shelf) self.old.tag C.MARK C.meaning) (slots_in self.old.states) job.slot Event.Finish) }
+        ensures slots { slots_in self.new.states ≡ event_slots (setup_on (W.cards self.old.shelf) (W.blocks self.old.shelf) self.old.tag C.MARK C.meaning) (slots_in self.old.states) job.slot Event.Finish }
         ensures shelf { self.new.shelf ≡ self.old.shelf }
         ensures tag { self.new.tag ≡ self.old.tag }
         ensures cursor { self.new.cursor ≡ self.old.cursor }
@@ -96,8 +96,8 @@ impl<W: WritableShelf, C: Checksum> Array<W, C> {
 
     // Ends a job, even where it is refused: the card is out.
     pub fn give_up(&mut self, job: RebuildJob) -> Result<(), Refusal>
-        ensures answer { result ≡ answered tt (event_state (setup_on (W.cards self.old.shelf) (W.blocks self.old.shelf) self.old.tag C.marked C.meaning) (slots_in self.old.states) job.slot Event.GiveUp) }
-        ensures slots { slots_in self.new.states ≡ event_slots (setup_on (W.cards self.old.shelf) (W.blocks self.old.shelf) self.old.tag C.marked C.meaning) (slots_in self.old.states) job.slot Event.GiveUp }
+        ensures answer { result ≡ answered tt (event_state (setup_on (W.cards self.old.shelf) (W.blocks self.old.shelf) self.old.tag C.MARK C.meaning) (slots_in self.old.states) job.slot Event.GiveUp) }
+        ensures slots { slots_in self.new.states ≡ event_slots (setup_on (W.cards self.old.shelf) (W.blocks self.old.shelf) self.old.tag C.MARK C.meaning) (slots_in self.old.states) job.slot Event.GiveUp }
         ensures shelf { self.new.shelf ≡ self.old.shelf }
         ensures tag { self.new.tag ≡ self.old.tag }
         ensures cursor { self.new.cursor ≡ self.old.cursor }

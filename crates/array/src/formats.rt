@@ -18,8 +18,8 @@ impl<W: WritableShelf, C: Checksum> Array<W, C> {
     // All slots are in, cursor and tally are 0. A tag of 0 is refused, and then no card is touched.
     // Whatever the cards made of the writes, the law over runs holds of every run from here on.
     pub fn format(shelf: W, tag: u32) -> Result<Array<W, C>, RefusedShelf<W>>
-        ensures answer { MatchResult result (λ a. (1 ≤ tag) × (W.conduct a.shelf ≡ after_all (W.conduct shelf) (format_writes (setup_on (W.cards shelf) (W.blocks shelf) tag C.marked C.meaning))) × (W.cards a.shelf ≡ W.cards shelf) × (W.blocks a.shelf ≡ W.blocks shelf) × (a.tag ≡ tag) × (slots_in a.states ≡ all_in) × (a.cursor ≡ 0) × (a.tally ≡ 0)) (λ e. (tag ≡ 0) × (e.refusal ≡ Refusal.Shape) × (e.shelf ≡ shelf)) }
-        ensures law { IfOk result (λ a. FormatLaw (setup_on (W.cards shelf) (W.blocks shelf) tag C.marked C.meaning) (W.conduct a.shelf)) }
+        ensures answer { MatchResult result (λ a. (1 ≤ tag) × (W.conduct a.shelf ≡ after_all (W.conduct shelf) (format_writes (setup_on (W.cards shelf) (W.blocks shelf) tag C.MARK C.meaning))) × (W.cards a.shelf ≡ W.cards shelf) × (W.blocks a.shelf ≡ W.blocks shelf) × (a.tag ≡ tag) × (slots_in a.states ≡ all_in) × (a.cursor ≡ 0) × (a.tally ≡ 0)) (λ e. (tag ≡ 0) × (e.refusal ≡ Refusal.Shape) × (e.shelf ≡ shelf)) }
+        ensures law { IfOk result (λ a. FormatLaw (setup_on (W.cards shelf) (W.blocks shelf) tag C.MARK C.meaning) (W.conduct a.shelf)) }
     {
         if tag == 0 {
             return Err(RefusedShelf {

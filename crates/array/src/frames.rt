@@ -15,7 +15,7 @@ impl<W: WritableShelf, C: Checksum> Array<W, C> {
         ensures width { result.width + 1 ≡ W.cards self.now.shelf }
         ensures blocks { result.blocks ≡ W.blocks self.now.shelf }
         ensures tag { result.tag ≡ self.now.tag }
-        ensures setup { setup result C.marked C.meaning ≡ setup_on (W.cards self.now.shelf) (W.blocks self.now.shelf) self.now.tag C.marked C.meaning }
+        ensures setup { setup result C.MARK C.meaning ≡ setup_on (W.cards self.now.shelf) (W.blocks self.now.shelf) self.now.tag C.MARK C.meaning }
     {
         frame_of(&self.shelf, self.tag)
     }

@@ -1,15 +1,12 @@
 -- The block that a place requires, and the judging of a block alone.
-use Rattle.std.specs.Prelude.{◌≡◌, ℕ, zero, suc, ◌+◌, ◌-◌, Bool, true, cond, not, ◌&&◌, List, length, take, ◌==◌, slice_index}
+use Rattle.std.specs.Prelude.{◌≡◌, ℕ, zero, suc, ◌+◌, ◌-◌, Bool, true, cond, not, ◌&&◌, List, length, take, ◌==◌, slice_index, Some, None, Ok, Err}
 use Rattle.checksum.specs.Rows.{word_at, Bytes as BytesOnly}
 use Rattle.block.specs.declared.frame.Frame.{Frame}
-use Rattle.block.specs.declared.shapes.Cell.{Cell}
-use Rattle.block.specs.declared.shapes.Cell.TheVariants.{Nothing, Bytes}
+use Rattle.block.specs.Shapes.{Cell, Verdict}
 use Rattle.block.specs.declared.shapes.Defect.TheVariants.{Blind, Broken, Foreign}
 use Rattle.block.specs.declared.shapes.Fields.{Fields}
 use Rattle.block.specs.declared.shapes.Role.{Role}
 use Rattle.block.specs.declared.shapes.Role.TheVariants.{Parity, Data}
-use Rattle.block.specs.declared.shapes.Verdict.{Verdict}
-use Rattle.block.specs.declared.shapes.Verdict.TheVariants.{Unfit, Readable}
 use Rattle.block.specs.Layout.{sealed_by, version_of}
 use Rattle.block.specs.Places.{slot_of}
 
@@ -78,8 +75,8 @@ native_block E s r b =
     && (word_at b 84 == s && (word_at b 120 == E.tag && unused_zero b (used_of E.D r) (7 - used_of E.D r)))
 
 abbrev pub judged : Setup → ℕ → Role → List ℕ → Verdict
-judged E s r b = cond (broken_by E.sum b) (Unfit Broken) (cond (native_block E s r b) (Readable b) (Unfit Foreign))
+judged E s r b = cond (broken_by E.sum b) (Err Broken) (cond (native_block E s r b) (Ok b) (Err Foreign))
 
 abbrev pub alone : Setup → ℕ → Role → Cell → Verdict
-alone E s r Nothing = Unfit Blind
-alone E s r (Bytes b) = judged E s r b
+alone E s r None = Err Blind
+alone E s r (Some b) = judged E s r b

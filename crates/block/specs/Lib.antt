@@ -1,4 +1,5 @@
 pub mod Refusals
+pub mod Shapes
 pub mod Places
 pub mod Layout
 pub mod Judging

@@ -25,6 +25,9 @@ slot_of d s (Data j) = cond (nat_lt j (parity_slot d s)) j (j + 1)
 abbrev pub role_at : ℕ → ℕ → ℕ → Role
 role_at d s c = cond (c == parity_slot d s) Parity (Data (cond (nat_lt c (parity_slot d s)) c (c - 1)))
 
+abbrev pub position_at : ℕ → ℕ → Position
+position_at s j = record { stripe = s; index = j }
+
 -- the stripe and the data index of an address, of n stripes
 abbrev pub position_of : ℕ → ℕ → ℕ → Result Position Refusal
 position_of d n L = cond (nat_lt L (d * n)) (Ok (record { stripe = L / d; index = L % d })) (Err Address)

@@ -5,6 +5,7 @@ ghost use Rattle.block.specs.Layout.{bytes_of, bytes_of_all, encoded, sealed_by,
 
 use crate::shapes::Fields;
 use checksum::{Checksum, be32};
+use std::array;
 
 // Writes bytes at a place; the clause speaks of the front of the row, up to where the bytes end.
 fn put(out: &mut [u8], at: usize, src: &[u8])
@@ -73,15 +74,7 @@ pub fn seal<C: Checksum>(fields: &Fields) -> [u8; 128]
 fn versions(block: &[u8; 128]) -> [u32; 7]
     ensures { result ≡ words_at 7 block.now 92 }
 {
-    [
-        be32(block, 92),
-        be32(block, 96),
-        be32(block, 100),
-        be32(block, 104),
-        be32(block, 108),
-        be32(block, 112),
-        be32(block, 116),
-    ]
+    array::from_fn(|k| be32(block, 92 + 4 * k))
 }
 
 // The fields of a block.

@@ -1,69 +1,20 @@
 // The block that a place requires, and the judging of a block alone.
-ghost use Rattle.std.specs.Prelude.{◌≡◌, ℕ, ◌+◌, ◌-◌, ◌<◌, ◌≤◌, Bool, List, length, ◌≢◌, slice_index, slice_set};
-ghost use Rattle.block.specs.Judging.{setup, kind_of, used_of, block_with, unused_zero, broken_by, marks_fit, native_block, judged, alone, RightSum};
+ghost use Rattle.std.specs.Prelude.{◌≡◌, ℕ, ◌+◌, ◌-◌, ◌<◌, ◌≤◌, Bool, List, length, ◌≢◌, ◌==◌, slice_index, slice_set};
+ghost use Rattle.std.specs.List.{list_all, range_with_len};
+ghost use Rattle.block.specs.Layout.{version_of};
+ghost use Rattle.block.specs.Judging.{setup, kind_of, used_of, block_with, broken_by, marks_fit, native_block, judged, alone, RightSum};
 
 use crate::codec::{seal, version};
-use crate::frame::Frame;
-use crate::places::slot_of;
 use crate::shapes::{Cell, Defect, Fields, Role, Verdict};
+use crate::spot::Spot;
 use checksum::{Checksum, be32};
 
-fn kind_of(role: Role) -> u8
-    ensures { result ≡ kind_of role }
-{
-    match role {
-        Role::Parity => 2,
-        Role::Data(_) => 1,
-    }
-}
-
-fn used_of(width: u32, role: Role) -> u32
-    ensures { result ≡ used_of width role }
-{
-    match role {
-        Role::Parity => width,
-        Role::Data(_) => 1,
-    }
-}
-
-// The block of a stripe with this payload, owner and versions.
-pub fn make_block<C: Checksum>(
-    frame: Frame,
-    stripe: u32,
-    role: Role,
-    payload: &[u8; 80],
-    owner: u32,
-    versions: &[u32; 7],
-) -> [u8; 128]
-    requires placed { (j : ℕ) → role ≡ Role.Data j → j < frame.width }
-    ensures { result ≡ block_with (setup frame C.marked C.meaning) stripe role payload.now owner versions.now }
-{
-    let row = *payload;
-    let seven = *versions;
-    let fields = Fields {
-        payload: row,
-        kind: kind_of(role),
-        mark: C::mark_byte(),
-        slot: slot_of(frame, stripe, role) as u8,
-        cards: (frame.width + 1) as u8,
-        block: stripe,
-        owner,
-        versions: seven,
-        tag: frame.tag,
-    };
-    seal::<C>(&fields)
-}
-
+// The versions from an index on are all 0.
 fn unused_zero(block: &[u8; 128], used: u32) -> bool
     requires { used ≤ 7 }
-    ensures { result ≡ unused_zero block.now used (7 - used) }
+    ensures { result ≡ list_all (λ k. version_of block.now k == 0) (range_with_len used (7 - used)) }
 {
-    for k in used..7 {
-        if version(block, k) != 0 {
-            return false;
-        }
-    }
-    true
+    (used..7).all(|k| version(block, k) == 0)
 }
 
 fn is_broken<C: Checksum>(block: &[u8; 128]) -> bool
@@ -72,49 +23,90 @@ fn is_broken<C: Checksum>(block: &[u8; 128]) -> bool
     be32(block, 124) != C::sum(block)
 }
 
-fn marks_fit(frame: Frame, mark: u8, stripe: u32, role: Role, block: &[u8; 128]) -> bool
-    requires placed { (j : ℕ) → role ≡ Role.Data j → j < frame.width }
-    ensures { result ≡ marks_fit frame.width mark stripe role block.now }
-{
-    block[80] == kind_of(role)
-        && block[81] == mark
-        && block[82] as u32 == slot_of(frame, stripe, role)
-        && block[83] as u32 == frame.width + 1
-}
-
-fn is_native<C: Checksum>(frame: Frame, stripe: u32, role: Role, block: &[u8; 128]) -> bool
-    requires placed { (j : ℕ) → role ≡ Role.Data j → j < frame.width }
-    ensures { result ≡ native_block (setup frame C.marked C.meaning) stripe role block.now }
-{
-    marks_fit(frame, C::mark_byte(), stripe, role, block)
-        && be32(block, 84) == stripe
-        && be32(block, 120) == frame.tag
-        && unused_zero(block, used_of(frame.width, role))
-}
-
-// A block judged alone, for the place where a role of a stripe lies.
-// A block with its right sum, any one byte of it changed to any other value, is judged broken.
-pub fn judge_block<C: Checksum>(frame: Frame, stripe: u32, role: Role, block: &[u8; 128]) -> Verdict
-    requires placed { (j : ℕ) → role ≡ Role.Data j → j < frame.width }
-    ensures is { result ≡ judged (setup frame C.marked C.meaning) stripe role block.now }
-    ensures one_byte { (was : List ℕ) (i v : ℕ) → RightSum C.meaning was → i < 128 → (slice_index was i ≢ v) → block.now ≡ slice_set was i v → result ≡ Verdict.Unfit Defect.Broken }
-{
-    if is_broken::<C>(block) {
-        Verdict::Unfit(Defect::Broken)
-    } else if is_native::<C>(frame, stripe, role, block) {
-        Verdict::Readable(*block)
-    } else {
-        Verdict::Unfit(Defect::Foreign)
+impl Spot {
+    // The byte that says on a card which kind of block it is.
+    fn kind(self) -> u8
+        ensures { result ≡ kind_of self.role }
+    {
+        match self.role {
+            Role::Parity => 2,
+            Role::Data(_) => 1,
+        }
     }
-}
 
-// What is seen of a place, judged alone.
-pub fn judge<C: Checksum>(frame: Frame, stripe: u32, role: Role, cell: &Cell) -> Verdict
-    requires placed { (j : ℕ) → role ≡ Role.Data j → j < frame.width }
-    ensures { result ≡ alone (setup frame C.marked C.meaning) stripe role cell.now }
-{
-    match cell {
-        Cell::Nothing => Verdict::Unfit(Defect::Blind),
-        Cell::Bytes(block) => judge_block::<C>(frame, stripe, role, block),
+    // How many of the seven versions are used.
+    fn used(self) -> u32
+        ensures { result ≡ used_of self.frame.width self.role }
+    {
+        match self.role {
+            Role::Parity => self.frame.width,
+            Role::Data(_) => 1,
+        }
+    }
+
+    // The block with this payload, owner and versions.
+    pub fn make_block<C: Checksum>(
+        self,
+        payload: &[u8; 80],
+        owner: u32,
+        versions: &[u32; 7],
+    ) -> [u8; 128]
+        ensures { result ≡ block_with (setup self.frame C.MARK C.meaning) self.stripe self.role payload.now owner versions.now }
+    {
+        let fields = Fields {
+            payload: *payload,
+            kind: self.kind(),
+            mark: C::MARK,
+            slot: self.slot() as u8,
+            cards: (self.frame.width + 1) as u8,
+            block: self.stripe,
+            owner,
+            versions: *versions,
+            tag: self.frame.tag,
+        };
+        seal::<C>(&fields)
+    }
+
+    fn marks_fit(self, mark: u8, block: &[u8; 128]) -> bool
+        ensures { result ≡ marks_fit self.frame.width mark self.stripe self.role block.now }
+    {
+        block[80] == self.kind()
+            && block[81] == mark
+            && block[82] as u32 == self.slot()
+            && block[83] as u32 == self.frame.width + 1
+    }
+
+    fn is_native<C: Checksum>(self, block: &[u8; 128]) -> bool
+        ensures { result ≡ native_block (setup self.frame C.MARK C.meaning) self.stripe self.role block.now }
+    {
+        self.marks_fit(C::MARK, block)
+            && be32(block, 84) == self.stripe
+            && be32(block, 120) == self.frame.tag
+            && unused_zero(block, self.used())
+    }
+
+    // A block judged alone, for the place where this one lies.
+    // A block with its right sum, any one byte of it changed to any other value, is judged broken.
+    pub fn judge_block<C: Checksum>(self, block: &[u8; 128]) -> Verdict
+        ensures is { result ≡ judged (setup self.frame C.MARK C.meaning) self.stripe self.role block.now }
+        ensures one_byte { (was : List ℕ) (i v : ℕ) → RightSum C.meaning was → i < 128 → (slice_index was i ≢ v) → block.now ≡ slice_set was i v → result ≡ Err Defect.Broken }
+    {
+        if is_broken::<C>(block) {
+            Err(Defect::Broken)
+        } else if self.is_native::<C>(block) {
+            Ok(*block)
+        } else {
+            Err(Defect::Foreign)
+        }
+    }
+
+    // What is seen of a place, judged alone.
+    pub fn judge<C: Checksum>(self, cell: &Cell) -> Verdict
+        ensures { result ≡ alone (setup self.frame C.MARK C.meaning) self.stripe self.role cell.now }
+    {
+        match cell {
+            None => Err(Defect::Blind),
+            Some(block) => self.judge_block::<C>(block),
+        }
     }
 }

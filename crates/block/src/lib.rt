@@ -7,10 +7,10 @@ mod judging;
 mod places;
 mod refusal;
 mod shapes;
+mod spot;
 
 pub use codec::{decode, encode, owner, seal, version};
 pub use frame::Frame;
-pub use judging::{judge, judge_block, make_block};
-pub use places::{role_at, slot_of};
 pub use refusal::Refusal;
 pub use shapes::{Cell, Defect, Fields, Place, Position, Role, Verdict};
+pub use spot::{DataSpot, Spot};

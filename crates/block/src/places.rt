@@ -1,10 +1,11 @@
 // Where the blocks of a stripe lie, and where an address lies.
-ghost use Rattle.std.specs.Prelude.{◌≡◌, ℕ, ◌+◌, ◌-◌, ◌*◌, ◌/◌, ◌%◌, ◌<◌, ◌≤◌, true, false, Some, Ok, MatchResult};
-ghost use Rattle.block.specs.Places.{in_range, parity_slot, slot_of, role_at, position_of, place_of, address_by, address_of, Within};
+ghost use Rattle.std.specs.Prelude.{◌≡◌, ℕ, ◌+◌, ◌-◌, ◌*◌, ◌/◌, ◌%◌, ◌<◌, ◌≤◌, true, false, Some, Ok, Err, MatchResult};
+ghost use Rattle.block.specs.Places.{in_range, parity_slot, slot_of, role_at, position_of, position_at, place_of, address_by, address_of, Within};
 
 use crate::frame::Frame;
 use crate::refusal::Refusal;
 use crate::shapes::{Place, Position, Role};
+use crate::spot::{DataSpot, Spot};
 
 impl Frame {
     // The frame of an array of so many cards with so many blocks each, under a tag.
@@ -44,15 +45,27 @@ impl Frame {
         }
     }
 
+    // The data block of an address.
+    pub fn data_spot(self, address: u32) -> Result<DataSpot, Refusal>
+        ensures { MatchResult result (λ d. (position_of self.width self.blocks address ≡ Ok (position_at d.stripe d.index)) × (d.frame ≡ self) × (d.stripe < self.blocks)) (λ e. position_of self.width self.blocks address ≡ Err e) }
+    {
+        let position = self.position(address)?;
+        Ok(DataSpot {
+            frame: self,
+            stripe: position.stripe,
+            index: position.index,
+        })
+    }
+
     // The place of an address, whose address is that address again.
     pub fn place(self, address: u32) -> Result<Place, Refusal>
         ensures is { result ≡ place_of self.width self.blocks address }
         ensures back { (p : Place) → result ≡ Ok p → address_of self.width self.blocks p.slot p.block ≡ Ok (Some address) }
     {
-        let position = self.position(address)?;
+        let at = self.data_spot(address)?;
         Ok(Place {
-            slot: slot_of(self, position.stripe, Role::Data(position.index)),
-            block: position.stripe,
+            slot: at.data().slot(),
+            block: at.stripe,
         })
     }
 
@@ -61,48 +74,91 @@ impl Frame {
         ensures is { result ≡ address_of self.width self.blocks place.slot place.block }
     {
         if place.slot <= self.width && place.block < self.blocks {
-            Ok(address_by(self, place.block, role_at(self, place.block, place.slot)))
+            Ok(self.spot_at(place.block, place.slot).address())
         } else {
             Err(Refusal::Place)
         }
     }
-}
 
-fn address_by(frame: Frame, stripe: u32, role: Role) -> Option<u32>
-    requires within { stripe < frame.blocks }
-    requires placed { (j : ℕ) → role ≡ Role.Data j → j < frame.width }
-    ensures { result ≡ address_by frame.width stripe role }
-{
-    match role {
-        Role::Parity => None,
-        Role::Data(j) => Some(stripe * frame.width + j),
+    // The block of a stripe that lies in a slot.
+    pub fn role_at(self, stripe: u32, slot: u32) -> Role
+        ensures is { result ≡ role_at self.width stripe slot }
+        ensures placed { slot ≤ self.width → (j : ℕ) → result ≡ Role.Data j → j < self.width }
+    {
+        let parity = self.parity_slot(stripe);
+        if slot == parity {
+            Role::Parity
+        } else if slot < parity {
+            Role::Data(slot)
+        } else {
+            Role::Data(slot - 1)
+        }
+    }
+
+    // The same of a slot that the array has.
+    pub fn spot_at(self, stripe: u32, slot: u32) -> Spot
+        requires { slot ≤ self.width }
+        ensures frame { result.frame ≡ self }
+        ensures stripe { result.stripe ≡ stripe }
+        ensures role { result.role ≡ role_at self.width stripe slot }
+    {
+        Spot {
+            frame: self,
+            stripe,
+            role: self.role_at(stripe, slot),
+        }
     }
 }
 
-// The slot of a block of a stripe.
-pub fn slot_of(frame: Frame, stripe: u32, role: Role) -> u32
-    requires placed { (j : ℕ) → role ≡ Role.Data j → j < frame.width }
-    ensures is { result ≡ slot_of frame.width stripe role }
-    ensures below { result ≤ frame.width }
-{
-    let parity = frame.parity_slot(stripe);
-    match role {
-        Role::Parity => parity,
-        Role::Data(j) => if j < parity { j } else { j + 1 },
+impl DataSpot {
+    // The data block itself.
+    pub fn data(self) -> Spot
+        ensures frame { result.frame ≡ self.frame }
+        ensures stripe { result.stripe ≡ self.stripe }
+        ensures role { result.role ≡ Role.Data self.index }
+    {
+        Spot {
+            frame: self.frame,
+            stripe: self.stripe,
+            role: Role::Data(self.index),
+        }
+    }
+
+    // The parity block of its stripe.
+    pub fn parity(self) -> Spot
+        ensures frame { result.frame ≡ self.frame }
+        ensures stripe { result.stripe ≡ self.stripe }
+        ensures role { result.role ≡ Role.Parity }
+    {
+        Spot {
+            frame: self.frame,
+            stripe: self.stripe,
+            role: Role::Parity,
+        }
     }
 }
 
-// The block of a stripe that lies in a slot.
-pub fn role_at(frame: Frame, stripe: u32, slot: u32) -> Role
-    ensures is { result ≡ role_at frame.width stripe slot }
-    ensures placed { slot ≤ frame.width → (j : ℕ) → result ≡ Role.Data j → j < frame.width }
-{
-    let parity = frame.parity_slot(stripe);
-    if slot == parity {
-        Role::Parity
-    } else if slot < parity {
-        Role::Data(slot)
-    } else {
-        Role::Data(slot - 1)
+impl Spot {
+    // The address, of a stripe that the array has.
+    fn address(self) -> Option<u32>
+        requires { self.stripe < self.frame.blocks }
+        ensures { result ≡ address_by self.frame.width self.stripe self.role }
+    {
+        match self.role {
+            Role::Parity => None,
+            Role::Data(j) => Some(self.stripe * self.frame.width + j),
+        }
+    }
+
+    // The slot in which the block lies.
+    pub fn slot(self) -> u32
+        ensures is { result ≡ slot_of self.frame.width self.stripe self.role }
+        ensures below { result ≤ self.frame.width }
+    {
+        let parity = self.frame.parity_slot(self.stripe);
+        match self.role {
+            Role::Parity => parity,
+            Role::Data(j) => if j < parity { j } else { j + 1 },
+        }
     }
 }

@@ -2,28 +2,30 @@
 ghost use Rattle.std.specs.Prelude.{◌≡◌};
 ghost use Rattle.block.specs.Refusals.{number_of};
 
+use std::fmt;
+
 #[derive(Clone, Copy, PartialEq, Eq, Debug)]
 pub enum Refusal {
     // A buffer, payload or image has the wrong length, or an image flag is above 1.
-    Length,
+    Length = 1,
     // The number of cards, the number of blocks or the tag is out of range.
-    Shape,
+    Shape = 2,
     // An address or the end of a stretch is beyond the array.
-    Address,
+    Address = 3,
     // A slot, block, byte index, byte mask, tear length, stray target or stripe count is out of range.
-    Place,
+    Place = 4,
     // A write names owner 0.
-    NoOwner,
+    NoOwner = 5,
     // The slot's state does not allow the event.
-    SlotState,
+    SlotState = 6,
     // The fault table is full.
-    TableFull,
+    TableFull = 7,
     // The block is lost.
-    Lost,
+    Lost = 8,
     // A read or look meets another stored owner.
-    OtherOwner,
+    OtherOwner = 9,
     // A write would raise the greatest version.
-    VersionLimit,
+    VersionLimit = 10,
 }
 
 impl Refusal {
@@ -31,17 +33,14 @@ impl Refusal {
     pub fn number(self) -> u8
         ensures { result ≡ number_of self }
     {
-        match self {
-            Refusal::Length => 1,
-            Refusal::Shape => 2,
-            Refusal::Address => 3,
-            Refusal::Place => 4,
-            Refusal::NoOwner => 5,
-            Refusal::SlotState => 6,
-            Refusal::TableFull => 7,
-            Refusal::Lost => 8,
-            Refusal::OtherOwner => 9,
-            Refusal::VersionLimit => 10,
-        }
+        self as u8
+    }
+}
+
+// Printed as its number.
+impl fmt::Display for Refusal {
+    fn fmt<W: fmt::Write>(&self, f: &mut fmt::Formatter<W>) -> fmt::Result {
+        let number = self.number();
+        write!(f, "{number}")
     }
 }

@@ -21,12 +21,8 @@ pub struct Position {
     pub index: u32,
 }
 
-// What is seen of a place: nothing, or its bytes.
-#[derive(Clone, Copy)]
-pub enum Cell {
-    Nothing,
-    Bytes([u8; 128]),
-}
+// What is seen of a place: its bytes, or nothing where it is blind.
+pub type Cell = Option<[u8; 128]>;
 
 // Why a block judged alone is unfit.
 #[derive(Clone, Copy, PartialEq, Eq, Debug)]
@@ -39,12 +35,8 @@ pub enum Defect {
     Foreign,
 }
 
-// A block judged alone.
-#[derive(Clone, Copy)]
-pub enum Verdict {
-    Unfit(Defect),
-    Readable([u8; 128]),
-}
+// A block judged alone: its bytes where it is readable.
+pub type Verdict = Result<[u8; 128], Defect>;
 
 // The fields of a block, but for its checksum.
 #[derive(Clone, Copy)]

@@ -41,7 +41,7 @@ fn parity_block(frame: Frame, byte: u8, first: u32, second: u32) -> [u8; 128] {
 
 // The stripe that is judged from the blocks on the three cards.
 fn judged(frame: Frame, first: &[u8; 128], second: &[u8; 128], parity: &[u8; 128]) -> Stripe {
-    let blank = Verdict::Unfit(block::Defect::Blind);
+    let blank = Err(block::Defect::Blind);
     let a = judge_block::<Fletcher>(frame, 0, Role::Data(0), first);
     let b = judge_block::<Fletcher>(frame, 0, Role::Data(1), second);
     let data = [a, b, blank, blank, blank, blank, blank];

@@ -38,9 +38,9 @@ fn add_half(sums: Sums, half: u16) -> Sums
 impl Checksum for Fletcher {
     const MARK: u8 = 1;
 
-    type State = Sums;
+    ghost MARK = { 1 };
 
-    ghost marked = { 1 };
+    type State = Sums;
 
     ghost after = { λ s ws. sum_from s.a s.b (split ws) };
 
@@ -51,10 +51,6 @@ impl Checksum for Fletcher {
     ghost narrow = { λ bs r. fits bs };
 
     ghost tells = { tells_apart };
-
-    fn mark_byte() -> u8 {
-        Self::MARK
-    }
 
     fn start() -> Sums {
         Sums { a: 0, b: 0 }

@@ -8,21 +8,17 @@ pub trait Checksum {
     // The byte that stands for it in a block.
     const MARK: u8;
 
+    // The same byte, for clauses.
+    ghost MARK: { ℕ };
+
     // What it keeps from word to word.
     type State;
-
-    // The byte that stands for it, for clauses.
-    ghost marked: { ℕ };
 
     // The sum that a state comes to once these words are fed.
     ghost after: { Self.State → List ℕ → ℕ };
 
     // The sum of a row of 124 bytes.
     ghost meaning: { List ℕ → ℕ };
-
-    // The byte that stands for it.
-    fn mark_byte() -> u8
-        ensures { result ≡ marked };
 
     // The state before the first word: the words of a row bring it to the row's sum.
     fn start() -> Self::State
@@ -48,7 +44,7 @@ pub trait Checksum {
     }
 
     // The mark is a byte.
-    ghost byte: { marked < 256 };
+    ghost byte: { MARK < 256 };
 
     // A sum fits 32 bits.
     ghost narrow: { (bs : List ℕ) → Row bs → meaning bs < 2 ^ 32 };

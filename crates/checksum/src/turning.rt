@@ -11,9 +11,9 @@ pub struct Turning;
 impl Checksum for Turning {
     const MARK: u8 = 2;
 
-    type State = u32;
+    ghost MARK = { 2 };
 
-    ghost marked = { 2 };
+    type State = u32;
 
     ghost after = { fold turn_in };
 
@@ -24,10 +24,6 @@ impl Checksum for Turning {
     ghost narrow = { fits };
 
     ghost tells = { tells_apart };
-
-    fn mark_byte() -> u8 {
-        Self::MARK
-    }
 
     fn start() -> u32 {
         0

@@ -1,8 +1,8 @@
 -- Reads and writes that are refused, and reads of a place with and without a mark.
+use Rattle.std.specs.Prelude.{None}
 use Rattle.std.proofs.Common.{◌≡◌, ℕ, true, false, cond, ◌&&◌, eqb, List, length, replicate, Ok, Err, sym, ap, ◌∙◌}
 use Rattle.std.proofs.lemmas.Bool.{cond-true, cond-false, and_from, and_left, and_right, eq-eqb, ne_eqb}
 use Rattle.block.specs.declared.refusal.Refusal.TheVariants.{Length, Place}
-use Rattle.block.specs.declared.shapes.Cell.TheVariants.{Nothing}
 use Rattle.shelf.specs.declared.Sight.TheVariants.{Blind}
 use Rattle.shelf.specs.Model.{Content, inside, sight_of, shown_of, read_answer, read_buffer, write_answer}
 use Rattle.faults.specs.declared.rows.Row.{Row}
@@ -12,7 +12,7 @@ use Rattle.faults.specs.Faults.{screened}
 module _ (n s : ℕ) (c : Content) (i j : ℕ) where
   module _ (rows : List Row) (no : marked i j rows ≡ false) where
     same : c i j ≡ screened rows c i j
-    same = sym (cond-false (marked i j rows) Nothing (c i j) no)
+    same = sym (cond-false (marked i j rows) None (c i j) no)
 
     pub answer_below : (len : ℕ) → read_answer n s c i j len ≡ read_answer n s (screened rows c) i j len
     unfolding read_answer
@@ -40,8 +40,8 @@ module _ (n s : ℕ) (c : Content) (i j : ℕ) where
 
   -- a marked place is blind
   module _ (rows : List Row) (there : marked i j rows ≡ true) (in_range_lem : inside n s i j ≡ true) where
-    hidden : screened rows c i j ≡ Nothing
-    hidden = cond-true (marked i j rows) Nothing (c i j) there
+    hidden : screened rows c i j ≡ None
+    hidden = cond-true (marked i j rows) None (c i j) there
 
     pub answer_blind : (len : ℕ) → len ≡ 128 → Ok Blind ≡ read_answer n s (screened rows c) i j len
     unfolding read_answer

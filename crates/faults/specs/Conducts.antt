@@ -4,8 +4,7 @@ use Rattle.std.proofs.Math.Path.{refl, sym, ap}
 use Rattle.std.proofs.Common.{◌∙◌, append_assoc}
 use Rattle.std.proofs.lemmas.List.{append-nil}
 use Rattle.std.proofs.lemmas.Bool.{cond-true, cond-false}
-use Rattle.block.specs.declared.shapes.Cell.{Cell}
-use Rattle.block.specs.declared.shapes.Cell.TheVariants.{Nothing, Bytes}
+use Rattle.block.specs.Shapes.{Cell}
 use Rattle.shelf.specs.Model.{Content, Conduct, Write, OwnCard, write_of, after_all, inside, writes_taken}
 use Rattle.faults.specs.declared.rows.Plan.{Plan}
 use Rattle.faults.specs.declared.rows.Plan.TheVariants.{Lose, Tear, Spoil, Stray}
@@ -60,8 +59,8 @@ module _ (n s : ℕ) (i j : ℕ) (li : i < n) (lj : j < s) (w : Write) (ne : i �
   own_planned k own c rows p = go p
     where
       tear : (m : ℕ) (x : Cell) → k (torn_writes w.slot w.block m w.bytes x) i j ≡ k [] i j
-      tear m Nothing = refl
-      tear m (Bytes old) = own [] _ i j li lj ne
+      tear m None = refl
+      tear m (Some old) = own [] _ i j li lj ne
 
       stray : (t : ℕ) (b : Bool) → k (cond b (write_of w.slot t w.bytes ∷ []) []) i j ≡ k [] i j
       stray t true = own [] _ i j li lj ne
@@ -90,9 +89,9 @@ module _ (n s : ℕ) (i j : ℕ) (li : i < n) (lj : j < s) (w : Write) (ne : i �
 
   own_from : (ws : List Write) (k : Conduct) (rows : List Row) → OwnCard n s k → fault_conduct n s k rows (ws ++ w ∷ []) i j ≡ fault_conduct n s k rows ws i j
   own_from [] k rows own =
-      ap (λ l. cond (marked i j (rows_after n s rows w)) Nothing (k l i j)) (append-nil (passed n s (k []) rows w))
-      ∙ ap (cond (marked i j (rows_after n s rows w)) Nothing) (own_passed k own (k []) rows)
-      ∙ ap (λ b. cond b Nothing (k [] i j)) (marked_after n s rows w i j ne)
+      ap (λ l. cond (marked i j (rows_after n s rows w)) None (k l i j)) (append-nil (passed n s (k []) rows w))
+      ∙ ap (cond (marked i j (rows_after n s rows w)) None) (own_passed k own (k []) rows)
+      ∙ ap (λ b. cond b None (k [] i j)) (marked_after n s rows w i j ne)
   own_from (v ∷ ws) k rows own =
       own_from ws (after_all k (passed n s (k []) rows v)) (rows_after n s rows v) (own_after k (passed n s (k []) rows v) own)
 

@@ -3,8 +3,7 @@
 use Rattle.std.specs.Prelude.{ℕ, Bool, true, false, cond, not, ◌&&◌, List, [], ◌∷◌, ◌++◌, length, take, drop, Some, None, Ok, Err, Option, Result, ◌==◌, bit_xor, nat_le, nat_lt, slice_index, slice_set}
 use Rattle.block.specs.declared.refusal.Refusal.{Refusal}
 use Rattle.block.specs.declared.refusal.Refusal.TheVariants.{Place as OffPlace}
-use Rattle.block.specs.declared.shapes.Cell.{Cell}
-use Rattle.block.specs.declared.shapes.Cell.TheVariants.{Nothing, Bytes}
+use Rattle.block.specs.Shapes.{Cell}
 use Rattle.shelf.specs.Model.{Content, Conduct, Write, Sized, AllSized, write_of, after_all, inside, writes_taken}
 use Rattle.faults.specs.declared.rows.Plan.{Plan}
 use Rattle.faults.specs.declared.rows.Plan.TheVariants.{Lose, Tear, Spoil, Stray}
@@ -15,13 +14,13 @@ use Rattle.faults.specs.Rows.{place_of, plan_for, marked, added, add_answer, row
 
 -- marked places show nothing
 abbrev pub screened : List Row → Content → Content
-screened rows c i j = cond (marked i j rows) Nothing (c i j)
+screened rows c i j = cond (marked i j rows) None (c i j)
 
 -- what is not blind is as long as before
 pub screened_sized : (n s : ℕ) (rows : List Row) (c : Content) → AllSized n s c → AllSized n s (screened rows c)
 screened_sized n s rows c h i j li lj = go (marked i j rows)
   where
-    go : (b : Bool) → Sized (cond b Nothing (c i j))
+    go : (b : Bool) → Sized (cond b None (c i j))
     go true = tt
     go false = h i j li lj
 
@@ -31,8 +30,8 @@ torn m bs old = take m bs ++ drop m old
 
 -- what a torn write hands down, by what the place shows; nothing to a blind place
 abbrev pub torn_writes : ℕ → ℕ → ℕ → List ℕ → Cell → List Write
-torn_writes i j m bs Nothing = []
-torn_writes i j m bs (Bytes old) = write_of i j (torn m bs old) ∷ []
+torn_writes i j m bs None = []
+torn_writes i j m bs (Some old) = write_of i j (torn m bs old) ∷ []
 
 -- what a write hands down under a plan; a stray goes to block t if the shelf has it
 abbrev pub planned_writes : ℕ → ℕ → Content → List Row → Write → Plan → List Write
@@ -106,8 +105,8 @@ flipped x m b = slice_set b x (bit_xor (slice_index b x) m)
 
 -- what a flip hands down, by what the place shows; nothing to a blind place
 abbrev pub flipped_writes : ℕ → ℕ → ℕ → ℕ → Cell → List Write
-flipped_writes i j x m Nothing = []
-flipped_writes i j x m (Bytes b) = write_of i j (flipped x m b) ∷ []
+flipped_writes i j x m None = []
+flipped_writes i j x m (Some b) = write_of i j (flipped x m b) ∷ []
 
 -- what a flip hands down; a refused one nothing
 abbrev pub flip_writes : ℕ → ℕ → Content → List Row → ℕ → ℕ → ℕ → ℕ → List Write

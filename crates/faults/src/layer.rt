@@ -97,7 +97,7 @@ impl<W: WritableShelf> FaultLayer<W> {
         ensures { result ≡ screened (rows_of self.now.table) (W.holds self.now.shelf) slot block }
     {
         if self.table.is_marked(slot, block) {
-            Cell::Nothing
+            None
         } else {
             fetch(&self.shelf, slot, block)
         }
@@ -114,7 +114,7 @@ impl<W: WritableShelf> FaultLayer<W> {
         if !(self.has(slot, block) && index <= 127 && mask >= 1 && mask <= 255) {
             return Err(Refusal::Place);
         }
-        if let Cell::Bytes(bytes) = self.shown(slot, block) {
+        if let Some(bytes) = self.shown(slot, block) {
             store(
                 &mut self.shelf,
                 slot,
@@ -135,7 +135,7 @@ impl<W: WritableShelf> FaultLayer<W> {
         ensures cards { W.cards self.new.shelf ≡ W.cards self.old.shelf }
         ensures blocks { W.blocks self.new.shelf ≡ W.blocks self.old.shelf }
     {
-        if let Cell::Bytes(old) = self.shown(slot, block) {
+        if let Some(old) = self.shown(slot, block) {
             store(&mut self.shelf, slot, block, &torn_block(kept, bytes, old));
         }
     }

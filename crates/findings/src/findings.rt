@@ -31,8 +31,8 @@ fn condition_of(block: &Verdict, bad: bool) -> Condition
     ensures { result ≡ condition_of block.now bad }
 {
     match block {
-        Verdict::Unfit(defect) => Condition::Bad(cause_of(*defect)),
-        Verdict::Readable(_) => if bad {
+        Err(defect) => Condition::Bad(cause_of(*defect)),
+        Ok(_) => if bad {
             Condition::Bad(Cause::Behind)
         } else {
             Condition::Readable
@@ -46,10 +46,10 @@ pub fn lead_at(block: &Verdict, parity: &Verdict, j: u32) -> Option<i64>
     ensures { result ≡ lead_at block.now parity.now j }
 {
     match block {
-        Verdict::Unfit(_) => None,
-        Verdict::Readable(b) => match parity {
-            Verdict::Unfit(_) => None,
-            Verdict::Readable(p) => Some(lead(version(b, 0), version(p, j))),
+        Err(_) => None,
+        Ok(b) => match parity {
+            Err(_) => None,
+            Ok(p) => Some(lead(version(b, 0), version(p, j))),
         },
     }
 }

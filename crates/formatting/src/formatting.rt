@@ -16,7 +16,7 @@ fn write_place<W: WritableShelf, C: Checksum>(shelf: &mut W, frame: Frame, slot:
     requires cards { W.cards shelf.old ≡ frame.width + 1 }
     requires slot_within { slot ≤ frame.width }
     requires block_within { block < W.blocks shelf.old }
-    ensures wrote { W.conduct shelf.new ≡ after_all (W.conduct shelf.old) (fresh_write (setup frame C.marked C.meaning) slot block ∷ []) }
+    ensures wrote { W.conduct shelf.new ≡ after_all (W.conduct shelf.old) (fresh_write (setup frame C.MARK C.meaning) slot block ∷ []) }
     ensures cards { W.cards shelf.new ≡ W.cards shelf.old }
     ensures blocks { W.blocks shelf.new ≡ W.blocks shelf.old }
 {
@@ -32,7 +32,7 @@ fn write_card<W: WritableShelf, C: Checksum>(shelf: &mut W, frame: Frame, slot: 
     requires cards { W.cards shelf.old ≡ frame.width + 1 }
     requires blocks { W.blocks shelf.old ≡ frame.blocks }
     requires slot_within { slot ≤ frame.width }
-    ensures wrote { W.conduct shelf.new ≡ after_all (W.conduct shelf.old) (card_writes (setup frame C.marked C.meaning) slot frame.blocks) }
+    ensures wrote { W.conduct shelf.new ≡ after_all (W.conduct shelf.old) (card_writes (setup frame C.MARK C.meaning) slot frame.blocks) }
     ensures cards { W.cards shelf.new ≡ W.cards shelf.old }
     ensures blocks { W.blocks shelf.new ≡ W.blocks shelf.old }
 {
@@ -45,7 +45,7 @@ fn write_card<W: WritableShelf, C: Checksum>(shelf: &mut W, frame: Frame, slot: 
 fn write_cards<W: WritableShelf, C: Checksum>(shelf: &mut W, frame: Frame)
     requires cards { W.cards shelf.old ≡ frame.width + 1 }
     requires blocks { W.blocks shelf.old ≡ frame.blocks }
-    ensures wrote { W.conduct shelf.new ≡ after_all (W.conduct shelf.old) (format_writes (setup frame C.marked C.meaning)) }
+    ensures wrote { W.conduct shelf.new ≡ after_all (W.conduct shelf.old) (format_writes (setup frame C.MARK C.meaning)) }
     ensures cards { W.cards shelf.new ≡ W.cards shelf.old }
     ensures blocks { W.blocks shelf.new ≡ W.blocks shelf.old }
 {
@@ -57,10 +57,10 @@ fn write_cards<W: WritableShelf, C: Checksum>(shelf: &mut W, frame: Frame)
 // Formats a shelf under a tag. Whatever run of calls and damage follows, the law over runs holds of it.
 pub fn format_shelf<W: WritableShelf, C: Checksum>(shelf: &mut W, tag: u32)
     requires { 1 ≤ tag }
-    ensures wrote { W.conduct shelf.new ≡ after_all (W.conduct shelf.old) (format_writes (setup_on (W.cards shelf.old) (W.blocks shelf.old) tag C.marked C.meaning)) }
+    ensures wrote { W.conduct shelf.new ≡ after_all (W.conduct shelf.old) (format_writes (setup_on (W.cards shelf.old) (W.blocks shelf.old) tag C.MARK C.meaning)) }
     ensures cards { W.cards shelf.new ≡ W.cards shelf.old }
     ensures blocks { W.blocks shelf.new ≡ W.blocks shelf.old }
-    ensures law { FormatLaw (setup_on (W.cards shelf.old) (W.blocks shelf.old) tag C.marked C.meaning) (W.conduct shelf.new) }
+    ensures law { FormatLaw (setup_on (W.cards shelf.old) (W.blocks shelf.old) tag C.MARK C.meaning) (W.conduct shelf.new) }
 {
     let frame = frame_of(shelf, tag);
     write_cards::<W, C>(shelf, frame);

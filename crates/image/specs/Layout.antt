@@ -3,8 +3,7 @@ use Rattle.std.specs.Prelude.{ℕ, ◌+◌, ◌*◌, Bool, true, cond, ◌&&◌,
 use Rattle.std.proofs.Math.Seq.{paste}
 use Rattle.block.specs.declared.refusal.Refusal.{Refusal}
 use Rattle.block.specs.declared.refusal.Refusal.TheVariants.{Length, Shape}
-use Rattle.block.specs.declared.shapes.Cell.{Cell}
-use Rattle.block.specs.declared.shapes.Cell.TheVariants.{Nothing, Bytes}
+use Rattle.block.specs.Shapes.{Cell}
 use Rattle.shelf.specs.Model.{Content, Conduct, Write, inside}
 use Rattle.image.specs.Extents.{shape_fits}
 
@@ -25,11 +24,11 @@ open_refusal n s xs = cond (shape_fits n s) (cond (bytes_fit (n * s) xs) None (S
 
 -- what the place p of m holds; without a flag it is blind
 unfoldable pub cell_at : ℕ → List ℕ → ℕ → Cell
-cell_at m xs p = cond (slice_index_or xs (m * 128 + p) 1 == 0) (Bytes (take 128 (drop (p * 128) xs))) Nothing
+cell_at m xs p = cond (slice_index_or xs (m * 128 + p) 1 == 0) (Some (take 128 (drop (p * 128) xs))) None
 
 -- what each place holds; there is nothing beyond the shelf
 unfoldable pub content_of : ℕ → ℕ → List ℕ → Content
-content_of n s xs i j = cond (inside n s i j) (cell_at (n * s) xs (i * s + j)) Nothing
+content_of n s xs i j = cond (inside n s i j) (cell_at (n * s) xs (i * s + j)) None
 
 -- the image once the bytes went to the place p of m, which is readable then
 unfoldable pub put_at : ℕ → List ℕ → ℕ → List ℕ → List ℕ

@@ -1,5 +1,5 @@
 -- What a write to one place of an image leaves.
-use Rattle.std.specs.Prelude.{◌≡◌, ℕ, ◌+◌, ◌-◌, ◌*◌, ◌/◌, ◌%◌, ◌<◌, ◌≤◌, min, true, cond, ◌≢◌, ◌⊎◌, List, [], ◌∷◌, ◌++◌, length, get_or, take, drop, ◌==◌, slice_index, slice_index_or, refl}
+use Rattle.std.specs.Prelude.{◌≡◌, ℕ, ◌+◌, ◌-◌, ◌*◌, ◌/◌, ◌%◌, ◌<◌, ◌≤◌, min, true, cond, ◌≢◌, ◌⊎◌, List, [], ◌∷◌, ◌++◌, length, get_or, take, drop, ◌==◌, slice_index, slice_index_or, refl, Some, None}
 use Rattle.std.proofs.Math.Path.{sym, ap, ap₂}
 use Rattle.std.proofs.Common.{subst, ◌∙◌, inl, inr, length-take}
 use Rattle.std.proofs.Math.Logic.{⊎_elim}
@@ -10,7 +10,6 @@ use Rattle.std.proofs.lemmas.List.{append-nil, get_or_append_left, get_or-append
 use Rattle.std.proofs.lemmas.List.Edits.{length-paste}
 use Rattle.std.proofs.lemmas.Bool.{and_parts, and_from, ltb-true, lt-ltb, eqb-true, eq-eqb, cond-true, cond_both, cases_order}
 use Rattle.std.proofs.lemmas.Nat.{div-mul-add, mod-mul-add}
-use Rattle.block.specs.declared.shapes.Cell.TheVariants.{Nothing, Bytes}
 use Rattle.shelf.specs.Model.{Write, OwnCard, Faithful}
 use Rattle.image.specs.Sized.{place_lt, content_in}
 use Rattle.image.specs.Layout.{accepts, cell_at, content_of, put_at, stored, replayed, image_conduct}
@@ -66,14 +65,14 @@ module _ (m : ℕ) (xs : List ℕ) (p : ℕ) (bs : List ℕ) (len : length xs �
   unfolding put_at
   flag_put_at = get_or-set_same (paste xs (p * 128) bs 128) (m * 128 + p) 0 1 (omega (arith, pasted))
 
-  cell_put_at : cell_at m (put_at m xs p bs) p ≡ Bytes bs
+  cell_put_at : cell_at m (put_at m xs p bs) p ≡ Some bs
   cell_put_at =
       let l = put_at m xs p bs in
       let long : length (take 128 (drop (p * 128) l)) ≡ 128 =
       length-take-le 128 _ (let d : length (drop (p * 128) l) ≡ length l - p * 128 = length-drop (p * 128) l in omega (arith, length_put_at))
       in
       cell_present m l p flag_put_at
-      ∙ ap Bytes (ext_get_or 0 _ _ (long ∙ sym b) (λ k h. let kk : k < 128 = omega arith in get_or-take 128 _ k 0 kk ∙ get_or-drop (p * 128) l k 0 ∙ get_d_put_at_here k kk))
+      ∙ ap Some (ext_get_or 0 _ _ (long ∙ sym b) (λ k h. let kk : k < 128 = omega arith in get_or-take 128 _ k 0 kk ∙ get_or-drop (p * 128) l k 0 ∙ get_d_put_at_here k kk))
 
   cell_put_at_other : (q : ℕ) → q < m → q ≢ p → cell_at m (put_at m xs p bs) q ≡ cell_at m xs q
   unfolding cell_at
@@ -86,7 +85,7 @@ module _ (m : ℕ) (xs : List ℕ) (p : ℕ) (bs : List ℕ) (len : length xs �
       get_or-take 128 _ k 0 kk ∙ get_or-drop (q * 128) _ k 0 ∙ get_d_put_at (q * 128 + k) 0 (omega arith) (apart q p k ne kk)
       ∙ sym (get_or-drop (q * 128) _ k 0) ∙ sym (get_or-take 128 _ k 0 kk))
       in
-      ap₂ (λ f l. cond (f == 0) (Bytes l) Nothing) flag block
+      ap₂ (λ f l. cond (f == 0) (Some l) None) flag block
 
 module _ (n s : ℕ) where
   accepted_within : (w : Write) → accepts n s w ≡ true → (w.slot < n) × (w.block < s) × (length w.bytes ≡ 128)

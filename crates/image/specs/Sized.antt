@@ -1,11 +1,10 @@
 -- Every place of an image that is not blind holds 128 bytes.
-use Rattle.std.specs.Prelude.{◌≡◌, ℕ, ◌+◌, ◌*◌, ◌<◌, ◌≤◌, List, length, take, drop, ◌==◌, slice_index_or}
+use Rattle.std.specs.Prelude.{◌≡◌, ℕ, ◌+◌, ◌*◌, ◌<◌, ◌≤◌, List, length, take, drop, ◌==◌, slice_index_or, Some, None}
 use Rattle.std.proofs.Math.Path.{subst⁻¹}
 use Rattle.std.proofs.Common.{⊎_elim, arith, mul_comm, length-take, length-drop}
 use Rattle.std.proofs.lemmas.List.{get_or_past}
 use Rattle.std.proofs.lemmas.Bool.{cond-true, and_from, lt-ltb, eqb-true, cases_lt, cond_both}
 use Rattle.std.proofs.lemmas.Nat.{mul-add-lt}
-use Rattle.block.specs.declared.shapes.Cell.TheVariants.{Nothing, Bytes}
 use Rattle.shelf.specs.Model.{Sized, AllSized}
 use Rattle.image.specs.Layout.{cell_at, content_of}
 
@@ -23,7 +22,7 @@ block_within m xs p lt e = ⊎_elim (λ h. omega arith) (λ h. omega (arith, get
 pub cell_sized : (m : ℕ) (xs : List ℕ) (p : ℕ) → p < m → Sized (cell_at m xs p)
 unfolding cell_at
 cell_sized m xs p lt =
-    cond_both (slice_index_or xs (m * 128 + p) 1 == 0) (Bytes (take 128 (drop (p * 128) xs))) Nothing Sized
+    cond_both (slice_index_or xs (m * 128 + p) 1 == 0) (Some (take 128 (drop (p * 128) xs))) None Sized
     (λ e. let h = block_within m xs p lt (eqb-true _ _ e) in simp (length-take, length-drop) (omega arith)) (λ _. tt)
 
 pub content_sized : (n s : ℕ) (xs : List ℕ) → AllSized n s (content_of n s xs)

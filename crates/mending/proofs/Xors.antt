@@ -1,4 +1,5 @@
 -- XORs block by block and byte by byte. Assumes nothing.
+use Rattle.std.specs.Prelude.{Err}
 use Rattle.std.proofs.Common.{◌≡◌, ℕ, ◌+◌, ◌<◌, ◌≤◌, List, length, get_or, set, replicate, sym, refl, ap, ◌∙◌, ap₂, add-one, arith, get_or-set_other}
 use lib.Bits.{bit_xor, xor_zero_l, xor_zero_r, xor_comm, xor_assoc}
 use Rattle.std.proofs.lemmas.List.FromFn.{get_or-map-range_with_len, fill_by_all}
@@ -8,8 +9,7 @@ use Rattle.block.specs.declared.shapes.Defect.{Defect}
 use Rattle.block.specs.declared.shapes.Defect.TheVariants.{Blind}
 use Rattle.block.specs.declared.shapes.Role.{Role}
 use Rattle.block.specs.declared.shapes.Role.TheVariants.{Parity, Data}
-use Rattle.block.specs.declared.shapes.Verdict.{Verdict}
-use Rattle.block.specs.declared.shapes.Verdict.TheVariants.{Unfit}
+use Rattle.block.specs.Shapes.{Verdict}
 use Rattle.block.specs.Layout.{table}
 use Rattle.stripe.specs.declared.shapes.Plan.{Plan}
 use Rattle.stripe.specs.declared.shapes.Plan.TheVariants.{Lost, BySum, ByAll}
@@ -57,7 +57,7 @@ unfolding xor_row
 xor_at row g i l = get_or-map-range_with_len (λ n. bit_xor (get_or row n 0) (g n)) 0 80 i i 0 l (omega arith)
 
 -- an unfit block changes nothing
-pub xor_unfit : (row : List ℕ) (v : Verdict) (c : Defect) → length row ≡ 80 → v ≡ Unfit c → row ≡ xor_row row (λ i. byte_in v i)
+pub xor_unfit : (row : List ℕ) (v : Verdict) (c : Defect) → length row ≡ 80 → v ≡ Err c → row ≡ xor_row row (λ i. byte_in v i)
 unfolding xor_row
 xor_unfit row v c l e =
     fill_by_all (λ i. bit_xor (get_or row i 0) (byte_in v i)) row 80 0 l
@@ -74,7 +74,7 @@ row_more F k row g e h =
 
 module _ (vs : List Verdict) (j : ℕ) (p : List ℕ) where
   bytes : ℕ → ℕ → ℕ
-  bytes i k = byte_in (get_or vs k (Unfit Blind)) i
+  bytes i k = byte_in (get_or vs k (Err Blind)) i
 
   pub data_none : replicate 80 0 ≡ data_row vs 0 j p
   unfolding data_row xors
@@ -84,7 +84,7 @@ module _ (vs : List Verdict) (j : ℕ) (p : List ℕ) where
   unfolding data_row bytes
   data_here k row e q = row_more (λ i. at (bytes i) j (get_or p i 0)) k row _ e (λ i. at_here (bytes i) j (get_or p i 0) k q)
 
-  pub data_other : (k : ℕ) (row : List ℕ) → row ≡ data_row vs k j p → (k ≡ j → ⊥) → xor_row row (λ i. byte_in (get_or vs k (Unfit Blind)) i) ≡ data_row vs (k + 1) j p
+  pub data_other : (k : ℕ) (row : List ℕ) → row ≡ data_row vs k j p → (k ≡ j → ⊥) → xor_row row (λ i. byte_in (get_or vs k (Err Blind)) i) ≡ data_row vs (k + 1) j p
   unfolding data_row bytes
   data_other k row e ne = row_more (λ i. at (bytes i) j (get_or p i 0)) k row _ e (λ i. at_other (bytes i) j (get_or p i 0) k ne)
 
@@ -128,11 +128,11 @@ module _ (q : Verdict) (vs : List Verdict) (d : ℕ) where
     unfolding summed_row data_row
     summed_all row is e = e ∙ ap (λ t. summed_row t d (as_view q vs) j p) (sym is)
 
-    pub summed_sum : (row out : List ℕ) → plan ≡ BySum → row ≡ xor_row p (λ i. byte_in (get_or vs j (Unfit Blind)) i) → out ≡ xor_row row (λ i. byte_in q i) → out ≡ summed_row plan d (as_view q vs) j p
+    pub summed_sum : (row out : List ℕ) → plan ≡ BySum → row ≡ xor_row p (λ i. byte_in (get_or vs j (Err Blind)) i) → out ≡ xor_row row (λ i. byte_in q i) → out ≡ summed_row plan d (as_view q vs) j p
     unfolding summed_row xor_row
     summed_sum row out is e h =
         h
-        ∙ table_same 80 _ (λ i. bit_xor (bit_xor (byte_in q i) (byte_in (get_or vs j (Unfit Blind)) i)) (get_or p i 0)) (λ i l.
-        ap (λ x. bit_xor x (byte_in q i)) (ap (λ r. get_or r i 0) e ∙ xor_at p (λ n. byte_in (get_or vs j (Unfit Blind)) n) i l)
-        ∙ turned (get_or p i 0) (byte_in (get_or vs j (Unfit Blind)) i) (byte_in q i))
+        ∙ table_same 80 _ (λ i. bit_xor (bit_xor (byte_in q i) (byte_in (get_or vs j (Err Blind)) i)) (get_or p i 0)) (λ i l.
+        ap (λ x. bit_xor x (byte_in q i)) (ap (λ r. get_or r i 0) e ∙ xor_at p (λ n. byte_in (get_or vs j (Err Blind)) n) i l)
+        ∙ turned (get_or p i 0) (byte_in (get_or vs j (Err Blind)) i) (byte_in q i))
         ∙ ap (λ t. summed_row t d (as_view q vs) j p) (sym is)

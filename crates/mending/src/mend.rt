@@ -68,7 +68,7 @@ pub fn mended_block<C: Checksum>(
     role: Role,
 ) -> [u8; 128]
     requires placed { (j : ℕ) → role ≡ Role.Data j → j < frame.width }
-    ensures { result ≡ mended (setup frame C.marked C.meaning) s (as_view parity.now «data».now) role }
+    ensures { result ≡ mended (setup frame C.MARK C.meaning) s (as_view parity.now «data».now) role }
 {
     let payload = others_row(parity, data, frame, role);
     let owner = others_owner(parity, data, frame, role);

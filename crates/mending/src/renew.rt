@@ -155,7 +155,7 @@ pub fn new_data<C: Checksum>(
     version: u32,
 ) -> [u8; 128]
     requires { j < frame.width }
-    ensures { result ≡ new_data (setup frame C.marked C.meaning) s j payload.now owner version }
+    ensures { result ≡ new_data (setup frame C.MARK C.meaning) s j payload.now owner version }
 {
     make_block::<C>(
         frame,
@@ -181,7 +181,7 @@ pub fn new_parity<C: Checksum>(
     version: u32,
 ) -> [u8; 128]
     requires { j < frame.width }
-    ensures { result ≡ new_parity (setup frame C.marked C.meaning) s (as_view parity.now «data».now) j plan bad payload.now owner version }
+    ensures { result ≡ new_parity (setup frame C.MARK C.meaning) s (as_view parity.now «data».now) j plan bad payload.now owner version }
 {
     let row = summed_row(plan, parity, data, frame, j, payload);
     let sum = summed_owner(plan, parity, data, frame, j, owner);

@@ -20,8 +20,8 @@ pub fn xor_block(row: &mut [u8; 80], block: &Verdict)
     ensures { row.new ≡ xor_row row.old (λ i. byte_in block.now i) }
 {
     match block {
-        Verdict::Unfit(_) => {}
-        Verdict::Readable(b) => xor_bytes(row, b),
+        Err(_) => {}
+        Ok(b) => xor_bytes(row, b),
     }
 }
 
@@ -46,8 +46,8 @@ pub fn owner_in(block: &Verdict) -> u32
     ensures { result ≡ owner_in block.now }
 {
     match block {
-        Verdict::Unfit(_) => 0,
-        Verdict::Readable(b) => owner(b),
+        Err(_) => 0,
+        Ok(b) => owner(b),
     }
 }
 
@@ -57,8 +57,8 @@ pub fn version_in(block: &Verdict, k: u32) -> u32
     ensures { result ≡ version_in block.now k }
 {
     match block {
-        Verdict::Unfit(_) => 0,
-        Verdict::Readable(b) => version(b, k),
+        Err(_) => 0,
+        Ok(b) => version(b, k),
     }
 }
 

@@ -23,7 +23,7 @@ pub fn patch_by<C: Checksum>(
 ) -> Option<Patch>
     requires placed { (j : ℕ) → decision ≡ Decision.Only (Role.Data j) → j < frame.width }
     ensures below { PatchBelow (frame.width + 1) result }
-    ensures is { result ≡ patch_by (setup frame C.marked C.meaning) s (as_view parity.now «data».now) decision }
+    ensures is { result ≡ patch_by (setup frame C.MARK C.meaning) s (as_view parity.now «data».now) decision }
 {
     match decision {
         Decision::Clean => None,
@@ -43,7 +43,7 @@ pub fn patch_of<C: Checksum>(
     s: u32,
 ) -> Option<Patch>
     ensures below { PatchBelow (frame.width + 1) result }
-    ensures is { result ≡ patch_of (setup frame C.marked C.meaning) s (as_view parity.now «data».now) }
+    ensures is { result ≡ patch_of (setup frame C.MARK C.meaning) s (as_view parity.now «data».now) }
 {
     let decision = decide(parity, data, frame, s);
     patch_by::<C>(decision, parity, data, frame, s)

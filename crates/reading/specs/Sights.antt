@@ -3,7 +3,7 @@ use Rattle.std.specs.Prelude.{ℕ, cond, List, Some, None, Ok, Err, Option, Resu
 use Rattle.block.specs.declared.refusal.Refusal.{Refusal}
 use Rattle.block.specs.declared.refusal.Refusal.TheVariants.{OtherOwner}
 use Rattle.block.specs.declared.shapes.Role.TheVariants.{Parity, Data}
-use Rattle.block.specs.declared.shapes.Verdict.{Verdict}
+use Rattle.block.specs.Shapes.{Verdict}
 use Rattle.block.specs.Judging.{Setup}
 use Rattle.stripe.specs.declared.shapes.Finding.{Finding}
 use Rattle.stripe.specs.declared.shapes.Stripe.{Stripe}

@@ -20,10 +20,10 @@ pub fn quick(block: &Verdict, parity: &Verdict, j: u32) -> bool
     ensures { result ≡ quick block.now parity.now j }
 {
     match block {
-        Verdict::Unfit(_) => false,
-        Verdict::Readable(b) => match parity {
-            Verdict::Unfit(_) => false,
-            Verdict::Readable(p) => version(b, 0) == version(p, j),
+        Err(_) => false,
+        Ok(b) => match parity {
+            Err(_) => false,
+            Ok(p) => version(b, 0) == version(p, j),
         },
     }
 }
@@ -33,8 +33,8 @@ fn as_found(block: &Verdict) -> Obtained
     ensures { result ≡ as_found block.now }
 {
     match block {
-        Verdict::Unfit(_) => Obtained::Lost,
-        Verdict::Readable(b) => Obtained::Found(*b),
+        Err(_) => Obtained::Lost,
+        Ok(b) => Obtained::Found(*b),
     }
 }
 
@@ -58,7 +58,7 @@ fn gather_all<C: Checksum>(
 ) -> Gathered
     requires placed { j < frame.width }
     ensures below { PatchBelow (frame.width + 1) result.patch }
-    ensures is { result ≡ gathered_all (setup frame C.marked C.meaning) s (as_view parity.now «data».now) j }
+    ensures is { result ≡ gathered_all (setup frame C.MARK C.meaning) s (as_view parity.now «data».now) j }
 {
     let patch = patch_of::<C>(parity, data, frame, s);
     let looks = frame.width + 1;
@@ -96,7 +96,7 @@ fn sight_quick(block: &Verdict) -> Sighted
 fn sight_all<C: Checksum>(stripe: Stripe, frame: Frame, s: u32, j: u32) -> Sighted
     requires placed { j < frame.width }
     ensures below { PatchBelow (frame.width + 1) result.gathered.patch }
-    ensures is { result ≡ sighted_all (setup frame C.marked C.meaning) s stripe j }
+    ensures is { result ≡ sighted_all (setup frame C.MARK C.meaning) s stripe j }
 {
     let gathered = gather_all::<C>(&stripe.parity, &stripe.data, frame, s, j);
     Sighted {
@@ -116,7 +116,7 @@ fn sight_data<R: ReadableShelf, C: Checksum>(
     requires cards { R.cards shelf.now ≡ frame.width + 1 }
     requires within { s < R.blocks shelf.now }
     requires placed { j < frame.width }
-    ensures { result ≡ view_of (setup frame C.marked C.meaning) (R.holds shelf.now) (slots_in states.now) s (Role.Data j) }
+    ensures { result ≡ view_of (setup frame C.MARK C.meaning) (R.holds shelf.now) (slots_in states.now) s (Role.Data j) }
 {
     judge_place::<R, C>(shelf, frame, states, s, Role::Data(j))
 }
@@ -133,7 +133,7 @@ pub(crate) fn sight<R: ReadableShelf, C: Checksum>(
     requires within { s < R.blocks shelf.now }
     requires placed { j < frame.width }
     ensures below { PatchBelow (frame.width + 1) result.gathered.patch }
-    ensures is { result ≡ sighted (setup frame C.marked C.meaning) s (view_of (setup frame C.marked C.meaning) (R.holds shelf.now) (slots_in states.now) s) j }
+    ensures is { result ≡ sighted (setup frame C.MARK C.meaning) s (view_of (setup frame C.MARK C.meaning) (R.holds shelf.now) (slots_in states.now) s) j }
 {
     let block = sight_data::<R, C>(shelf, frame, states, s, j);
     let parity = judge_place::<R, C>(shelf, frame, states, s, Role::Parity);
@@ -156,7 +156,7 @@ pub fn gather<R: ReadableShelf, C: Checksum>(
     requires within { s < R.blocks shelf.now }
     requires placed { j < frame.width }
     ensures below { PatchBelow (frame.width + 1) result.patch }
-    ensures is { result ≡ gathered (setup frame C.marked C.meaning) s (view_of (setup frame C.marked C.meaning) (R.holds shelf.now) (slots_in states.now) s) j }
+    ensures is { result ≡ gathered (setup frame C.MARK C.meaning) s (view_of (setup frame C.MARK C.meaning) (R.holds shelf.now) (slots_in states.now) s) j }
 {
     let sighted = sight::<R, C>(shelf, frame, states, s, j);
     sighted.gathered

@@ -53,7 +53,7 @@ fn look_read<R: ReadableShelf, C: Checksum>(
     requires cards { R.cards shelf.now ≡ frame.width + 1 }
     requires blocks { R.blocks shelf.now ≡ frame.blocks }
     requires within { address < frame.width * frame.blocks }
-    ensures { result ≡ settled_in (look_read (setup frame C.marked C.meaning) (R.holds shelf.now) (slots_in states.now) owner tally address) }
+    ensures { result ≡ settled_in (look_read (setup frame C.MARK C.meaning) (R.holds shelf.now) (slots_in states.now) owner tally address) }
 {
     let gathered = gather::<R, C>(
         shelf,
@@ -80,7 +80,7 @@ fn look_from<R: ReadableShelf, C: Checksum>(
     requires blocks { R.blocks shelf.now ≡ frame.blocks }
     requires within { first + count ≤ frame.width * frame.blocks }
     requires long { length out.old ≡ 80 * count }
-    ensures { seen_as result out.new tally.new ≡ look_from (setup frame C.marked C.meaning) (R.holds shelf.now) (slots_in states.now) owner count first tally.old }
+    ensures { seen_as result out.new tally.new ≡ look_from (setup frame C.MARK C.meaning) (R.holds shelf.now) (slots_in states.now) owner count first tally.old }
 {
     for i in 0..count {
         let settled = look_read::<R, C>(shelf, frame, states, *tally, first + i, owner);
@@ -126,7 +126,7 @@ fn look_checked<R: ReadableShelf, C: Checksum>(
 ) -> Result<LookAnswer, Refusal>
     requires cards { R.cards shelf.now ≡ frame.width + 1 }
     requires blocks { R.blocks shelf.now ≡ frame.blocks }
-    ensures { LookDone (look_call (setup frame C.marked C.meaning) (R.holds shelf.now) (slots_in states.now) tally.old first count owner out.old) result out.new tally.new }
+    ensures { LookDone (look_call (setup frame C.MARK C.meaning) (R.holds shelf.now) (slots_in states.now) tally.old first count owner out.old) result out.new tally.new }
 {
     if out.len() != 80 * count as usize {
         return Err(Refusal::Length);
@@ -151,7 +151,7 @@ pub fn look_call<R: ReadableShelf, C: Checksum>(
 ) -> Result<LookAnswer, Refusal>
     requires cards { R.cards shelf.now ≡ frame.width + 1 }
     requires blocks { R.blocks shelf.now ≡ frame.blocks }
-    ensures { LookDone (look_call (setup frame C.marked C.meaning) (R.holds shelf.now) (slots_in states.now) tally.old first count owner out.old) result out.new tally.new }
+    ensures { LookDone (look_call (setup frame C.MARK C.meaning) (R.holds shelf.now) (slots_in states.now) tally.old first count owner out.old) result out.new tally.new }
 {
     look_checked::<R, C>(shelf, frame, states, tally, first, count, owner, out)
 }

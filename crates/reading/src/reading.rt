@@ -156,7 +156,7 @@ fn read_at<W: WritableShelf, C: Checksum>(
     requires placed { j < frame.width }
     requires found_long { length found.old ≡ 128 }
     requires rebuilt_long { length rebuilt.old ≡ 128 }
-    ensures done { ReadDone (read_at (setup frame C.marked C.meaning) (W.holds shelf.old) (slots_in states.now) tally.old s j asked mending) (W.conduct shelf.old) (W.conduct shelf.new) result found.new rebuilt.new findings.new tally.new }
+    ensures done { ReadDone (read_at (setup frame C.MARK C.meaning) (W.holds shelf.old) (slots_in states.now) tally.old s j asked mending) (W.conduct shelf.old) (W.conduct shelf.new) result found.new rebuilt.new findings.new tally.new }
     ensures cards { W.cards shelf.new ≡ W.cards shelf.old }
     ensures blocks { W.blocks shelf.new ≡ W.blocks shelf.old }
 {
@@ -193,7 +193,7 @@ fn read_checked<W: WritableShelf, C: Checksum>(
 ) -> Result<ReadAnswer, Refusal>
     requires cards { W.cards shelf.old ≡ frame.width + 1 }
     requires blocks { W.blocks shelf.old ≡ frame.blocks }
-    ensures done { ReadDone (read_call (setup frame C.marked C.meaning) (W.holds shelf.old) (slots_in states.now) tally.old address owner mending found.old rebuilt.old findings.old) (W.conduct shelf.old) (W.conduct shelf.new) result found.new rebuilt.new findings.new tally.new }
+    ensures done { ReadDone (read_call (setup frame C.MARK C.meaning) (W.holds shelf.old) (slots_in states.now) tally.old address owner mending found.old rebuilt.old findings.old) (W.conduct shelf.old) (W.conduct shelf.new) result found.new rebuilt.new findings.new tally.new }
     ensures cards { W.cards shelf.new ≡ W.cards shelf.old }
     ensures blocks { W.blocks shelf.new ≡ W.blocks shelf.old }
 {
@@ -225,7 +225,7 @@ pub fn read_call<W: WritableShelf, C: Checksum>(
 ) -> Result<ReadAnswer, Refusal>
     requires cards { W.cards shelf.old ≡ frame.width + 1 }
     requires blocks { W.blocks shelf.old ≡ frame.blocks }
-    ensures done { ReadDone (read_call (setup frame C.marked C.meaning) (W.holds shelf.old) (slots_in states.now) tally.old address owner mending found.old rebuilt.old findings.old) (W.conduct shelf.old) (W.conduct shelf.new) result found.new rebuilt.new findings.new tally.new }
+    ensures done { ReadDone (read_call (setup frame C.MARK C.meaning) (W.holds shelf.old) (slots_in states.now) tally.old address owner mending found.old rebuilt.old findings.old) (W.conduct shelf.old) (W.conduct shelf.new) result found.new rebuilt.new findings.new tally.new }
     ensures cards { W.cards shelf.new ≡ W.cards shelf.old }
     ensures blocks { W.blocks shelf.new ≡ W.blocks shelf.old }
 {

@@ -14,7 +14,7 @@ use stripe::{Condition, Finding, SlotState, frame_of, look, mask_of};
 fn report_of<R: ReadableShelf, C: Checksum>(shelf: &R, frame: Frame, stripe: u32) -> StripeReport
     requires cards { R.cards shelf.now ≡ frame.width + 1 }
     requires within { stripe < R.blocks shelf.now }
-    ensures { result ≡ report_at (setup frame C.marked C.meaning) (R.holds shelf.now) stripe }
+    ensures { result ≡ report_at (setup frame C.MARK C.meaning) (R.holds shelf.now) stripe }
 {
     let states = [SlotState::In; 8];
     let blocks = look::<R, C>(shelf, frame, &states, stripe);
@@ -51,7 +51,7 @@ pub fn report_stripe<R: ReadableShelf, C: Checksum>(
     tag: u32,
     stripe: u32,
 ) -> Result<StripeReport, Refusal>
-    ensures { result ≡ stripe_report (setup_on (R.cards shelf.now) (R.blocks shelf.now) tag C.marked C.meaning) (R.holds shelf.now) stripe }
+    ensures { result ≡ stripe_report (setup_on (R.cards shelf.now) (R.blocks shelf.now) tag C.MARK C.meaning) (R.holds shelf.now) stripe }
 {
     if tag == 0 {
         return Err(Refusal::Shape);

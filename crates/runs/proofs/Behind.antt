@@ -1,14 +1,12 @@
 -- Parity that is behind at another index stays behind there after a write that took the quick path.
+use Rattle.std.specs.Prelude.{Some, None, Ok, Err}
 use Rattle.std.proofs.Common.{◌≡◌, ℕ, suc, ◌+◌, ◌*◌, ◌/◌, ◌%◌, ◌^◌, ◌<◌, ◌≤◌, true, false, cond, ltb, ◌⊎◌, List, [], get_or, sym, refl, ap, ◌∙◌, subst, ap₂, inl, inr, arith, pow_pos}
 use lib.Bits.{bit_xor, xor_lt}
 use Rattle.std.proofs.lemmas.Bool.{lt-ltb, ltb-true, cases_eq, cases_Bool, cond-true, cond-false}
-use Rattle.block.specs.declared.shapes.Cell.{Cell}
-use Rattle.block.specs.declared.shapes.Cell.TheVariants.{Nothing, Bytes}
+use Rattle.block.specs.Shapes.{Cell, Verdict}
 use Rattle.block.specs.declared.shapes.Defect.TheVariants.{Blind}
 use Rattle.block.specs.declared.shapes.Role.{Role}
 use Rattle.block.specs.declared.shapes.Role.TheVariants.{Parity, Data}
-use Rattle.block.specs.declared.shapes.Verdict.{Verdict}
-use Rattle.block.specs.declared.shapes.Verdict.TheVariants.{Unfit, Readable}
 use Rattle.block.specs.Judging.{Setup, alone}
 use Rattle.block.specs.Layout.{version_of}
 use Rattle.block.specs.Places.{slot_of}
@@ -42,14 +40,14 @@ word_small : (b : List ℕ) (n : ℕ) → ((i : ℕ) → get_or b i 0 < 2 ^ 8) �
 word_small b n h = omega (arith, h n, h (n + 1), h (n + 2), h (n + 3))
 
 -- a readable block is seen
-readable_takes : (E : Setup) (s : ℕ) (r : Role) (x : Cell) (t : SlotState) (b : List ℕ) → alone E s r (seen_at x t s) ≡ Readable b
+readable_takes : (E : Setup) (s : ℕ) (r : Role) (x : Cell) (t : SlotState) (b : List ℕ) → alone E s r (seen_at x t s) ≡ Ok b
     → takes_at t s ≡ true
 readable_takes E s r x t b e = go (cases_Bool (takes_at t s))
   where
     go : (takes_at t s ≡ true) ⊎ (takes_at t s ≡ false) → takes_at t s ≡ true
     go (inl h) = h
     go (inr h) =
-        let f : Unfit Blind ≡ Readable b = sym (ap (alone E s r) (cond-false (takes_at t s) x Nothing h)) ∙ e in
+        let f : Err Blind ≡ Ok b = sym (ap (alone E s r) (cond-false (takes_at t s) x None h)) ∙ e in
         let z : ◌≡◌ {A = ℕ} 0 1 = cc in absurd (omega arith)
 
 module _ (E : Setup) (G : InRange E) (C : CodecLaws E) (w : World) (I : Starts E w) (O : Orderly E w) (L : ℕ) (p : List ℕ) (o : ℕ)
@@ -79,7 +77,7 @@ module _ (E : Setup) (G : InRange E) (C : CodecLaws E) (w : World) (I : Starts E
   l : j < E.D
   l = l₀ E G C w I O L p o Subtractive fs
 
-  parity_is : V Parity ≡ Readable b
+  parity_is : V Parity ≡ Ok b
   parity_is = judged E C w I s Parity tt ∙ x.readable
 
   fine : Fine E s w.book.records V (Data j)
@@ -98,7 +96,7 @@ module _ (E : Setup) (G : InRange E) (C : CodecLaws E) (w : World) (I : Starts E
   abbrev versions : ℕ → ℕ
   versions = at (other_version false V) j (new_version E V j)
 
-  part_small : (m : ℕ) (g : Verdict → ℕ) (y : ℕ) → g (Readable b) < 2 ^ m → g (V (Data j)) < 2 ^ m → y < 2 ^ m → part g y < 2 ^ m
+  part_small : (m : ℕ) (g : Verdict → ℕ) (y : ℕ) → g (Ok b) < 2 ^ m → g (V (Data j)) < 2 ^ m → y < 2 ^ m → part g y < 2 ^ m
   part_small m g y u v z =
       xor_lt m (bit_xor (g (V Parity)) (g (V (Data j)))) y
       (xor_lt m (g (V Parity)) (g (V (Data j))) (subst (λ r. g r < 2 ^ m) (sym parity_is) u) v) z
@@ -150,7 +148,7 @@ module _ (E : Setup) (G : InRange E) (C : CodecLaws E) (w : World) (I : Starts E
   takes : takes_at (w.book.slots (slot_of E.D s Parity)) s ≡ true
   takes = readable_takes E s Parity (w.shelf [] (slot_of E.D s Parity) s) (w.book.slots (slot_of E.D s Parity)) b x.readable
 
-  cell_is : cell_of E (next E w (write L p o Subtractive fs)) s Parity ≡ Bytes b'
+  cell_is : cell_of E (next E w (write L p o Subtractive fs)) s Parity ≡ Some b'
   cell_is =
       bytes_seen (next_shelf E w.shelf w.array (write L p o Subtractive fs) [] (slot_of E.D s Parity) s)
       ((next E w (write L p o Subtractive fs)).book.slots (slot_of E.D s Parity)) s b'

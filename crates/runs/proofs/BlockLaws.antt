@@ -1,4 +1,5 @@
 -- What the 128 bytes of a block say, and that they are judged readable.
+use Rattle.std.specs.Prelude.{Ok}
 use Rattle.std.proofs.Common.{◌≡◌, ℕ, zero, suc, ◌+◌, ◌-◌, ◌*◌, ◌^◌, ◌<◌, ◌≤◌, true, false, not, List, [], ◌∷◌, ◌++◌, length, get_or, take, set, sym, refl, ap, ◌∙◌, arith}
 use lib.Lanes.{Each1}
 use Rattle.std.proofs.lemmas.List.{append_assoc, length-append, get_or-take, take_at}
@@ -7,7 +8,6 @@ use Rattle.checksum.specs.Rows.{word_at, Bytes, Row, OneApart}
 use Rattle.block.specs.declared.shapes.Fields.{Fields}
 use Rattle.block.specs.declared.shapes.Role.{Role}
 use Rattle.block.specs.declared.shapes.Role.TheVariants.{Parity, Data}
-use Rattle.block.specs.declared.shapes.Verdict.TheVariants.{Readable}
 use Rattle.block.specs.Judging.{
   Setup,
   kind_of,
@@ -165,7 +165,7 @@ module _ (E : Setup) (s : ℕ) (r : Role) (payload : List ℕ) (owner : ℕ) (ve
       (unused_from bytes128 (used_of E.D r) (7 - used_of E.D r)
       (λ k l m. let n : k < 7 = omega arith in block_version k n ∙ zeros k l n))))
 
-  pub block_readable : ((k : ℕ) → used_of E.D r ≤ k → k < 7 → get_or versions k 0 ≡ 0) → judged E s r bytes128 ≡ Readable bytes128
+  pub block_readable : ((k : ℕ) → used_of E.D r ≤ k → k < 7 → get_or versions k 0 ≡ 0) → judged E s r bytes128 ≡ Ok bytes128
   block_readable zeros = cond-false _ _ _ block_whole ∙ cond-true _ _ _ (block_native zeros)
 
   -- one byte changed to another value shows

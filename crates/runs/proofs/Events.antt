@@ -3,7 +3,6 @@ use Rattle.std.proofs.Common.{◌≡◌, ℕ, suc, ◌+◌, ◌<◌, Bool, true,
 use Rattle.std.proofs.lemmas.Bool.{eq-eqb, ne_eqb, lt-ltb, ltb-true, cases_eq, cond-true, cond-false, both_ways}
 use Rattle.block.specs.declared.refusal.Refusal.{Refusal}
 use Rattle.block.specs.declared.refusal.Refusal.TheVariants.{Place, SlotState as NotAllowed}
-use Rattle.block.specs.declared.shapes.Cell.TheVariants.{Bytes}
 use Rattle.block.specs.declared.shapes.Role.{Role}
 use Rattle.block.specs.Judging.{Setup}
 use Rattle.block.specs.Places.{slot_of}
@@ -135,10 +134,10 @@ refilled_takes n (Filling m) s t = go (ltb m n)
 
 -- a good block stays good as a slot is noted anew, if its place holds the same and is still seen
 pub noted_stays : (E : Setup) (w : World) → Starts E w → (t : Bool) (d : ℕ) (x : SlotState) (m : Conduct) (s : ℕ) (r : Role) → Good E w s r
-    → m [] (slot_of E.D s r) s ≡ Bytes (block_of E w.book.records s r)
+    → m [] (slot_of E.D s r) s ≡ Some (block_of E w.book.records s r)
     → (t ≡ true → slot_of E.D s r ≡ d → takes_at x s ≡ true)
     → seen_at (m [] (slot_of E.D s r) s) ((cond {A = Book} t (note_slot w.book d x) w.book).slots (slot_of E.D s r)) s
-    ≡ Bytes (block_of E (cond {A = Book} t (note_slot w.book d x) w.book).records s r)
+    ≡ Some (block_of E (cond {A = Book} t (note_slot w.book d x) w.book).records s r)
 noted_stays E w I false d x m s r g e h =
     bytes_seen (m [] (slot_of E.D s r) s) (w.book.slots (slot_of E.D s r)) s (block_of E w.book.records s r)
     (good_takes E w I s r g) e

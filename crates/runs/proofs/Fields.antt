@@ -1,10 +1,9 @@
 -- The fields of the blocks of the book's records, in a stripe.
+use Rattle.std.specs.Prelude.{Some, Ok, Err}
 use Rattle.std.proofs.Common.{◌≡◌, ℕ, ◌+◌, ◌*◌, ◌^◌, ◌<◌, true, List, get_or, take, set, ap, ◌∙◌}
-use Rattle.block.specs.declared.shapes.Cell.TheVariants.{Bytes}
 use Rattle.block.specs.declared.shapes.Defect.{Defect}
 use Rattle.block.specs.declared.shapes.Role.{Role}
 use Rattle.block.specs.declared.shapes.Role.TheVariants.{Parity, Data}
-use Rattle.block.specs.declared.shapes.Verdict.TheVariants.{Unfit, Readable}
 use Rattle.block.specs.Judging.{Setup, alone, broken_by}
 use Rattle.block.specs.Layout.{owner_of, version_of}
 use Rattle.stripe.specs.Mend.{byte_in, owner_in, version_in, xors}
@@ -16,12 +15,12 @@ use Rattle.runs.proofs.Xors.{xors_lt}
 
 -- a block is judged to be the block of the records
 abbrev pub Fine : Setup → ℕ → (ℕ → Rec) → View → Role → Type 0
-Fine E s f V r = V r ≡ Readable (block_of E f s r)
+Fine E s f V r = V r ≡ Ok (block_of E f s r)
 
 -- a block is judged unfit, or has lower versions than the records
 pub data Poor (E : Setup) (s : ℕ) (f : ℕ → Rec) (V : View) (r : Role) : Type 0 where
-  unfit : (c : Defect) → V r ≡ Unfit c → Poor E s f V r
-  behind : (b : List ℕ) → V r ≡ Readable b → Lower E f s r b → Poor E s f V r
+  unfit : (c : Defect) → V r ≡ Err c → Poor E s f V r
+  behind : (b : List ℕ) → V r ≡ Ok b → Lower E f s r b → Poor E s f V r
 
 module _ (E : Setup) (C : CodecLaws E) (s : ℕ) (a : s < E.S) (f : ℕ → Rec) (F : (L : ℕ) → Fits (f L)) where
   abbrev R : ℕ → Rec
@@ -42,7 +41,7 @@ module _ (E : Setup) (C : CodecLaws E) (s : ℕ) (a : s < E.S) (f : ℕ → Rec)
   pub vers_small : (k : ℕ) → k < E.D → (R k).version < 2 ^ 32
   vers_small k _ = (F (s * E.D + k)).versioned
 
-  pub block_fit : (r : Role) → InStripe E r → alone E s r (Bytes (block_of E f s r)) ≡ Readable (block_of E f s r)
+  pub block_fit : (r : Role) → InStripe E r → alone E s r (Some (block_of E f s r)) ≡ Ok (block_of E f s r)
   unfolding parity_of parity_with
   block_fit Parity i = C.parity_fit s row owner (λ k. (R k).version) a row_small owner_small vers_small
   block_fit (Data j) i = C.data_fit s j (R j) a i (F (s * E.D + j))

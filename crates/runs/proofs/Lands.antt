@@ -1,7 +1,7 @@
 -- What scrubs and writes make good.
+use Rattle.std.specs.Prelude.{Some}
 use Rattle.std.proofs.Common.{◌≡◌, ℕ, suc, ◌+◌, ◌/◌, ◌%◌, ◌<◌, Bool, true, false, ◌⊎◌, List, [], sym, refl, ap, ◌∙◌, subst, inl, inr, arith}
 use Rattle.std.proofs.lemmas.Bool.{cases_Bool, cond-true, cond-false}
-use Rattle.block.specs.declared.shapes.Cell.TheVariants.{Bytes}
 use Rattle.block.specs.declared.shapes.Role.{Role}
 use Rattle.block.specs.declared.shapes.Role.TheVariants.{Parity, Data}
 use Rattle.block.specs.Judging.{Setup}
@@ -81,7 +81,7 @@ module _ (E : Setup) (G : InRange E) (C : CodecLaws E) (w : World) (I : Starts E
       ∙ (ap (λ z. expected (patch_writes w.array.slots s (patch_by E s V z)) c s (w.shelf [] c s)) (is_only E s V r x)
       ∙ (sent_here w.array.slots (write_of c s (mended E s V r)) c s (w.shelf [] c s) refl refl
       (ap (λ z. takes_at z s) (I.same c) ∙ t)
-      ∙ ap Bytes (alone_exact E C s a w.book.records I.fits V r (sorted E C w I O s a) x))))
+      ∙ ap Some (alone_exact E C s a w.book.records I.fits V r (sorted E C w I O s a) x))))
     where
       s : ℕ
       s = scrub_at E w
@@ -108,7 +108,7 @@ module _ (E : Setup) (G : InRange E) (C : CodecLaws E) (w : World) (I : Starts E
       (takes_after E G C w I O L p o y fs (slot_of E.D s r) s k)
       (landed E G C w I O L p o y fs r (inside r v) W (did_all E w (write L p o y fs) (slot_of E.D s r) n)
       ∙ (put r v (ap (λ z. takes_at z s) (I.same (slot_of E.D s r)) ∙ k)
-      ∙ ap (λ z. Bytes (block_of E (B' E G C w I O L p o y fs z).records s r)) (sym t)))
+      ∙ ap (λ z. Some (block_of E (B' E G C w I O L p o y fs z).records s r)) (sym t)))
     where
       s : ℕ
       s = L / E.D
@@ -130,14 +130,14 @@ module _ (E : Setup) (G : InRange E) (C : CodecLaws E) (w : World) (I : Starts E
 
       put : (q : Role) → Renewed E w s (L % E.D) y q → takes_at (w.array.slots (slot_of E.D s q)) s ≡ true
           → put_at E G C w I O L p o y fs s q (w.shelf [] (slot_of E.D s r) s)
-          ≡ Bytes (block_of E (f' E G C w I O L p o y fs) s q)
+          ≡ Some (block_of E (f' E G C w I O L p o y fs) s q)
       put Parity v z = put_parity E G C w I O L p o y fs W _ _ z (exact v)
       put (Data j) v z =
           subst
           (λ q.
           takes_at (w.array.slots (slot_of E.D s (Data q))) s ≡ true
           → put_at E G C w I O L p o y fs s (Data q) (w.shelf [] (slot_of E.D s r) s)
-          ≡ Bytes (block_of E (f' E G C w I O L p o y fs) s (Data q)))
+          ≡ Some (block_of E (f' E G C w I O L p o y fs) s (Data q)))
           (sym v) (put_data E G C w I O L p o y fs W _) z
 
   -- in a stripe of good blocks both ways make the same parity

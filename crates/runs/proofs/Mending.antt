@@ -1,9 +1,9 @@
 -- Reads, scrubs and rebuilds leave good blocks good.
+use Rattle.std.specs.Prelude.{Some}
 use Rattle.std.proofs.Common.{◌≡◌, ℕ, ◌+◌, ◌*◌, ◌/◌, ◌%◌, ◌<◌, ◌≤◌, Bool, true, false, cond, ◌&&◌, eqb, ltb, leb, ◌⊎◌, List, [], ◌∷◌, length, None, Ok, Err, Option, Result, sym, refl, ap, ◌∙◌, subst, inl, inr}
 use Rattle.std.proofs.lemmas.Bool.{eqb-true, le-ltb, ltb-true, cases_Bool, cases_lt, cond-true, cond-false, and_parts}
 use Rattle.block.specs.declared.refusal.Refusal.{Refusal}
 use Rattle.block.specs.declared.refusal.Refusal.TheVariants.{Length, Address}
-use Rattle.block.specs.declared.shapes.Cell.TheVariants.{Bytes}
 use Rattle.block.specs.declared.shapes.Role.{Role}
 use Rattle.block.specs.declared.shapes.Role.TheVariants.{Parity, Data}
 use Rattle.block.specs.Judging.{Setup}
@@ -127,10 +127,10 @@ module _ (E : Setup) (G : InRange E) (C : CodecLaws E) (w : World) (I : Starts E
       ws = (read_call E (w.shelf []) σ w.array.tally L o on f b fs).writes
 
       go : (ws ≡ []) ⊎ ((L < E.D * E.S) × (ws ≡ patch_writes σ (L / E.D) (patch_of E (L / E.D) (view_in E w (L / E.D)))))
-          → expected ws (slot s r) s (Bytes (block s r)) ≡ Bytes (block s r)
-      go (inl e) = ap (λ z. expected z (slot s r) s (Bytes (block s r))) e
+          → expected ws (slot s r) s (Some (block s r)) ≡ Some (block s r)
+      go (inl e) = ap (λ z. expected z (slot s r) s (Some (block s r))) e
       go (inr e) =
-          ap (λ z. expected z (slot s r) s (Bytes (block s r))) e.1
+          ap (λ z. expected z (slot s r) s (Some (block s r))) e.1
           ∙ patch_keeps E w I C O (L / E.D) (stripe_lt E G L e.0) s r
 
   pub scrub_stays : (s : ℕ) (r : Role) → s < E.S → InStripe E r → Good E w s r
@@ -142,12 +142,12 @@ module _ (E : Setup) (G : InRange E) (C : CodecLaws E) (w : World) (I : Starts E
 
   -- the write of a rebuild puts the block of the records
   rebuild_keeps : (d n : ℕ) → n < E.S → (s : ℕ) (r : Role)
-      → expected (rebuild_writes E (w.shelf []) σ n d) (slot s r) s (Bytes (block s r)) ≡ Bytes (block s r)
+      → expected (rebuild_writes E (w.shelf []) σ n d) (slot s r) s (Some (block s r)) ≡ Some (block s r)
   unfolding rebuild_writes
   rebuild_keeps d n l s r = go (decision E.D n (view_in E w n)) (says E n (view_in E w n))
     where
       go : (x : Decision) → Says E n (view_in E w n) x
-          → expected (rebuild_by E n (view_in E w n) d x) (slot s r) s (Bytes (block s r)) ≡ Bytes (block s r)
+          → expected (rebuild_by E n (view_in E w n) d x) (slot s r) s (Some (block s r)) ≡ Some (block s r)
       go Clean y = refl
       go Lost y = refl
       go (Only q) y = one (cases_Bool (eqb (slot n q) d))
@@ -156,36 +156,36 @@ module _ (E : Setup) (G : InRange E) (C : CodecLaws E) (w : World) (I : Starts E
           put = write_of d n (mended E n (view_in E w n) q)
 
           one : (eqb (slot n q) d ≡ true) ⊎ (eqb (slot n q) d ≡ false)
-              → expected (cond (eqb (slot n q) d) (put ∷ []) []) (slot s r) s (Bytes (block s r)) ≡ Bytes (block s r)
+              → expected (cond (eqb (slot n q) d) (put ∷ []) []) (slot s r) s (Some (block s r)) ≡ Some (block s r)
           one (inl t) =
               same_when (eqb (slot n q) d) put (slot s r) s (block s r)
               (λ c e.
               same_block E B.records n q s r (mended E n (view_in E w n) q)
               (alone_exact E C n l B.records I.fits (view_in E w n) q (sorted E C w I O n l) y)
               (c ∙ sym (eqb-true (slot n q) d t)) e)
-          one (inr t) = ap (λ z. expected z (slot s r) s (Bytes (block s r))) (cond-false (eqb (slot n q) d) (put ∷ []) [] t)
+          one (inr t) = ap (λ z. expected z (slot s r) s (Some (block s r))) (cond-false (eqb (slot n q) d) (put ∷ []) [] t)
 
   refill_keeps : (d : ℕ) (x : SlotState) (s : ℕ) (r : Role)
-      → expected (refill_writes E (w.shelf []) σ d x) (slot s r) s (Bytes (block s r)) ≡ Bytes (block s r)
+      → expected (refill_writes E (w.shelf []) σ d x) (slot s r) s (Some (block s r)) ≡ Some (block s r)
   refill_keeps d In s r = refl
   refill_keeps d Out s r = refl
   refill_keeps d (Filling n) s r = go (cases_Bool (ltb n E.S))
     where
       go : (ltb n E.S ≡ true) ⊎ (ltb n E.S ≡ false)
-          → expected (cond (ltb n E.S) (rebuild_writes E (w.shelf []) σ n d) []) (slot s r) s (Bytes (block s r)) ≡ Bytes (block s r)
+          → expected (cond (ltb n E.S) (rebuild_writes E (w.shelf []) σ n d) []) (slot s r) s (Some (block s r)) ≡ Some (block s r)
       go (inl t) =
-          ap (λ z. expected z (slot s r) s (Bytes (block s r))) (cond-true (ltb n E.S) (rebuild_writes E (w.shelf []) σ n d) [] t)
+          ap (λ z. expected z (slot s r) s (Some (block s r))) (cond-true (ltb n E.S) (rebuild_writes E (w.shelf []) σ n d) [] t)
           ∙ rebuild_keeps d n (ltb-true n E.S t) s r
       go (inr t) =
-          ap (λ z. expected z (slot s r) s (Bytes (block s r))) (cond-false (ltb n E.S) (rebuild_writes E (w.shelf []) σ n d) [] t)
+          ap (λ z. expected z (slot s r) s (Some (block s r))) (cond-false (ltb n E.S) (rebuild_writes E (w.shelf []) σ n d) [] t)
 
   -- the writes of a rebuild leave a good block's place as it is
   pub rebuild_content : (d s : ℕ) (r : Role) → s < E.S → InStripe E r → Good E w s r
       → Did (E.D + 1) E.S w.shelf (handed E w.shelf w.array (rebuild d)) (slot s r)
-      → next_shelf E w.shelf w.array (rebuild d) [] (slot s r) s ≡ Bytes (block s r)
+      → next_shelf E w.shelf w.array (rebuild d) [] (slot s r) s ≡ Some (block s r)
   rebuild_content d s r a i g did =
       after_writes E w I (handed E w.shelf w.array (rebuild d)) s r (block s r) a i g did (go (leb d E.D))
     where
-      go : (b : Bool) → expected (cond b (refill_writes E (w.shelf []) σ d (σ d)) []) (slot s r) s (Bytes (block s r)) ≡ Bytes (block s r)
+      go : (b : Bool) → expected (cond b (refill_writes E (w.shelf []) σ d (σ d)) []) (slot s r) s (Some (block s r)) ≡ Some (block s r)
       go true = refill_keeps d (σ d) s r
       go false = refl

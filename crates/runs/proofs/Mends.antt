@@ -4,7 +4,7 @@ use lib.Bits.{bit_xor, xor_zero_l}
 use Rattle.std.proofs.lemmas.Bool.{le-ltb, cases_lt, cases_Bool, cond-true, cond-false}
 use Rattle.block.specs.declared.shapes.Role.{Role}
 use Rattle.block.specs.declared.shapes.Role.TheVariants.{Parity, Data}
-use Rattle.block.specs.declared.shapes.Verdict.{Verdict}
+use Rattle.block.specs.Shapes.{Verdict}
 use Rattle.block.specs.Judging.{Setup, block_with}
 use Rattle.block.specs.Layout.{table}
 use Rattle.block.specs.Places.{slot_of}

@@ -4,7 +4,7 @@ use lib.Bits.{bit_xor}
 use Rattle.std.proofs.lemmas.Bool.{cases_eq, cases_Bool, cond-true, cond-false, both_ways, or_cases, or_parts, or_right}
 use Rattle.block.specs.declared.shapes.Role.{Role}
 use Rattle.block.specs.declared.shapes.Role.TheVariants.{Parity, Data}
-use Rattle.block.specs.declared.shapes.Verdict.{Verdict}
+use Rattle.block.specs.Shapes.{Verdict}
 use Rattle.block.specs.Judging.{Setup}
 use Rattle.stripe.specs.declared.shapes.Decision.{Decision}
 use Rattle.stripe.specs.declared.shapes.Decision.TheVariants.{Clean, Only, Lost as TwoBad}

@@ -1,10 +1,9 @@
 -- The law over runs.
+use Rattle.std.specs.Prelude.{Some, Ok, Err}
 use Rattle.std.proofs.Common.{◌≡◌, ℕ, zero, suc, ◌+◌, ◌^◌, ◌<◌, true, cond, get_or, set, replicate, sym, refl, ◌∙◌, subst, pow_pos}
 use lib.ListN.{length-replicate}
 use Rattle.std.proofs.lemmas.Bool.{cond-true}
-use Rattle.block.specs.declared.shapes.Cell.TheVariants.{Bytes}
 use Rattle.block.specs.declared.shapes.Defect.TheVariants.{Broken, Foreign}
-use Rattle.block.specs.declared.shapes.Verdict.TheVariants.{Unfit, Readable}
 use Rattle.block.specs.Judging.{Setup, broken_by, native_block}
 use Rattle.shelf.specs.Model.{Conduct, OwnCard}
 use Rattle.runs.specs.Book.{Fits, blank_book, block_of}
@@ -22,8 +21,8 @@ lasts E G C w₀ I w (step v k r o p) = starts_next E G C v (lasts E G C w₀ I 
 
 one_byte : (E : Setup) → CodecLaws E → (w : World) → Starts E w → OneByteShows E w
 one_byte E C w I s r b i v a q g h l k d =
-    let e : block_of E w.book.records s r ≡ b = let f : Bytes (block_of E w.book.records s r) ≡ Bytes b = sym g ∙ h in cc in
-    cond-true (broken_by E.sum (set b i v)) (Unfit Broken) (cond (native_block E s r (set b i v)) (Readable (set b i v)) (Unfit Foreign))
+    let e : block_of E w.book.records s r ≡ b = let f : Some (block_of E w.book.records s r) ≡ Some b = sym g ∙ h in cc in
+    cond-true (broken_by E.sum (set b i v)) (Err Broken) (cond (native_block E s r (set b i v)) (Ok (set b i v)) (Err Foreign))
     (subst (λ z. (get_or z i 0 ≡ v → ⊥) → broken_by E.sum (set z i v) ≡ true) e
     (block_broken E C s a w.book.records I.fits r i v q l k) d)
 

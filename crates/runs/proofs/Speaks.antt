@@ -1,8 +1,8 @@
 -- Orderly runs exist.
+use Rattle.std.specs.Prelude.{Some}
 use Rattle.std.proofs.Common.{◌≡◌, ℕ, ◌+◌, ◌*◌, ◌/◌, ◌%◌, ◌<◌, Bool, true, false, cond, ◌⊎◌, List, [], ◌∷◌, ◌++◌, length, None, sym, refl, ap, ◌∙◌, subst, inl, inr, append_assoc, append-nil}
 use Rattle.std.proofs.lemmas.Bool.{cond-true, cond-false, both_ways}
-use Rattle.block.specs.declared.shapes.Cell.{Cell}
-use Rattle.block.specs.declared.shapes.Cell.TheVariants.{Bytes}
+use Rattle.block.specs.Shapes.{Cell}
 use Rattle.block.specs.declared.shapes.Role.{Role}
 use Rattle.block.specs.declared.shapes.Role.TheVariants.{Parity, Data}
 use Rattle.block.specs.Judging.{Setup}
@@ -59,7 +59,7 @@ use Rattle.runs.proofs.Writing.{f', B', l₀, a₀, O₀, new_rec, parity_good, 
 
 -- A plain memory that holds a formatted array: each place holds what was last written to it.
 pub memory : Setup → Conduct
-memory E ws c s = expected ws c s (Bytes (block_of E blank_book.records s (role_at E.D s c)))
+memory E ws c s = expected ws c s (Some (block_of E blank_book.records s (role_at E.D s c)))
 
 pub memory_good : (E : Setup) → GoodShelf E (memory E)
 unfolding memory
@@ -72,14 +72,14 @@ memory_good E = record {
             last ws w c s
             ∙ (cond-false (named w c s) _ _ (named_not w c s (λ x y. h (x, y))) ∙ ap (λ z. expected z c s (first c s)) (sym (append-nil ws)));
       };
-  good = λ s r _ _. ap (λ q. Bytes (block_of E blank_book.records s q)) (role_of_slot E.D s r);
+  good = λ s r _ _. ap (λ q. Some (block_of E blank_book.records s q)) (role_of_slot E.D s r);
 }
   where
     first : ℕ → ℕ → Cell
-    first c s = Bytes (block_of E blank_book.records s (role_at E.D s c))
+    first c s = Some (block_of E blank_book.records s (role_at E.D s c))
 
     last : (us : List Write) (w : Write) (c s : ℕ)
-        → expected (us ++ w ∷ []) c s (first c s) ≡ cond (named w c s) (Bytes w.bytes) (expected us c s (first c s))
+        → expected (us ++ w ∷ []) c s (first c s) ≡ cond (named w c s) (Some w.bytes) (expected us c s (first c s))
     last us w c s = expected_++ us (w ∷ []) c s (first c s)
 
 -- blocks of records have 128 bytes

@@ -1,8 +1,8 @@
 -- Whether a card did as told can be decided: either it did all its writes, or one of them is named that it did not.
+use Rattle.std.specs.Prelude.{Some, None}
 use Rattle.std.proofs.Common.{◌≡◌, ℕ, zero, suc, ◌+◌, ◌<◌, ◌⊎◌, List, [], ◌∷◌, sym, refl, ap, subst, ap₂, inl, inr, arith}
 use Rattle.std.proofs.lemmas.Bool.{cases_eq}
-use Rattle.block.specs.declared.shapes.Cell.{Cell}
-use Rattle.block.specs.declared.shapes.Cell.TheVariants.{Nothing, Bytes}
+use Rattle.block.specs.Shapes.{Cell}
 use Rattle.block.specs.Judging.{Setup}
 use Rattle.shelf.specs.Model.{Write, Conduct, AsTold, after_all}
 use Rattle.runs.specs.Law.{FailedWrite}
@@ -24,13 +24,13 @@ cases_bytes (x ∷ xs) (y ∷ ys) = go (cases_eq x y) (cases_bytes xs ys)
     go (inr a) o = inr (λ e. let z : x ≡ y = cc in a z)
 
 pub cases_cell : (x y : Cell) → Either (x ≡ y)
-cases_cell Nothing Nothing = inl refl
-cases_cell Nothing (Bytes b) = inr (λ e. let z : ◌≡◌ {A = ℕ} 0 1 = cc in omega arith)
-cases_cell (Bytes a) Nothing = inr (λ e. let z : ◌≡◌ {A = ℕ} 0 1 = cc in omega arith)
-cases_cell (Bytes a) (Bytes b) = go (cases_bytes a b)
+cases_cell None None = inl refl
+cases_cell None (Some b) = inr (λ e. let z : ◌≡◌ {A = ℕ} 0 1 = cc in omega arith)
+cases_cell (Some a) None = inr (λ e. let z : ◌≡◌ {A = ℕ} 0 1 = cc in omega arith)
+cases_cell (Some a) (Some b) = go (cases_bytes a b)
   where
-    go : Either (a ≡ b) → Either (Bytes a ≡ Bytes b)
-    go (inl e) = inl (ap Bytes e)
+    go : Either (a ≡ b) → Either (Some a ≡ Some b)
+    go (inl e) = inl (ap Some e)
     go (inr d) = inr (λ e. let z : a ≡ b = cc in d z)
 
 cases_below : (P : ℕ → Type 0) → ((i : ℕ) → Either (P i)) → (n : ℕ) → Either ((i : ℕ) → i < n → P i)
@@ -62,10 +62,10 @@ module _ (N S : ℕ) (m : Conduct) (w : Write) where
 
   cases_told : Either (AsTold N S m w)
   cases_told =
-      go (cases_cell (m (w ∷ []) w.slot w.block) (Bytes w.bytes))
+      go (cases_cell (m (w ∷ []) w.slot w.block) (Some w.bytes))
       (cases_below (λ i. (j : ℕ) → j < S → Kept i j) (λ i. cases_below (Kept i) (cases_kept i) S) N)
     where
-      go : Either (m (w ∷ []) w.slot w.block ≡ Bytes w.bytes) → Either ((i : ℕ) → i < N → (j : ℕ) → j < S → Kept i j)
+      go : Either (m (w ∷ []) w.slot w.block ≡ Some w.bytes) → Either ((i : ℕ) → i < N → (j : ℕ) → j < S → Kept i j)
           → Either (AsTold N S m w)
       go (inl a) (inl b) = inl (record { there = a; elsewhere = λ i j k l. b i k j l })
       go (inl a) (inr b) = inr (λ t. b (λ i k j l. t.elsewhere i j k l))

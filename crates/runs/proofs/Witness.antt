@@ -3,10 +3,8 @@ use Rattle.std.proofs.Common.{◌≡◌, ℕ, zero, suc, ◌*◌, ◌/◌, ◌^�
 use Rattle.std.proofs.lemmas.Bool.{eq-eqb, ne_eqb, cond-true, cond-false, both_ways}
 use Rattle.block.specs.declared.refusal.Refusal.{Refusal}
 use Rattle.block.specs.declared.refusal.Refusal.TheVariants.{Lost}
-use Rattle.block.specs.declared.shapes.Cell.TheVariants.{Nothing, Bytes}
 use Rattle.block.specs.declared.shapes.Role.{Role}
 use Rattle.block.specs.declared.shapes.Role.TheVariants.{Parity, Data}
-use Rattle.block.specs.declared.shapes.Verdict.TheVariants.{Readable}
 use Rattle.block.specs.Judging.{Setup, alone}
 use Rattle.shelf.specs.Model.{Write, Conduct, OwnCard, AsTold, Content, after_all}
 use Rattle.stripe.specs.declared.shapes.Finding.{Finding}
@@ -87,7 +85,7 @@ losing_own N S m d h ws w c s a b n = go (drops d ws w)
     go (inr e) = ap (λ z. m z c s) e ∙ h (drop_first d ws) w c s a b n
 
 blinding_own : (N S : ℕ) (m : Conduct) (d : ℕ) → OwnCard N S m → OwnCard N S (blinding d m)
-blinding_own N S m d h ws w c s a b n = ap (λ z. cond (eqb c d) Nothing z) (h ws w c s a b n)
+blinding_own N S m d h ws w c s a b n = ap (λ z. cond (eqb c d) None z) (h ws w c s a b n)
 
 -- a read with the switch off hands down nothing
 off : (a : Result ReadAnswer Refusal) (p : Option Patch) → read_patch false a p ≡ None
@@ -133,15 +131,15 @@ module _ (mark : ℕ) (sum : List ℕ → ℕ) (hm : mark < 2 ^ 8) (hs : SumLaw 
 
     -- data block 1 is good
     abbrev Good₁ : Conduct → Type 0
-    Good₁ k = k [] 1 0 ≡ Bytes (block_of E B.records 0 (Data 1))
+    Good₁ k = k [] 1 0 ≡ Some (block_of E B.records 0 (Data 1))
 
     -- parity is good, and data block 0 is as it was before the write
     record Scene (k : Conduct) : Type 0 where
       own : OwnCard 3 1 k
-      parity : k [] 2 0 ≡ Bytes (block_of E B.records 0 Parity)
-      old : k [] 0 0 ≡ Bytes (block_of E blank_book.records 0 (Data 0))
+      parity : k [] 2 0 ≡ Some (block_of E B.records 0 Parity)
+      old : k [] 0 0 ≡ Some (block_of E blank_book.records 0 (Data 0))
 
-    module _ (k : Conduct) (t : ℕ) (x : Scene k) (new : Good₁ k ⊎ (k [] 1 0 ≡ Nothing)) where
+    module _ (k : Conduct) (t : ℕ) (x : Scene k) (new : Good₁ k ⊎ (k [] 1 0 ≡ None)) where
       abbrev w : World
       w = world k t
 
@@ -161,7 +159,7 @@ module _ (mark : ℕ) (sum : List ℕ → ℕ) (hm : mark < 2 ^ 8) (hs : SumLaw 
           parity zero a = x.parity
           parity (suc s) a = absurd (omega arith)
 
-          one : Good₁ k ⊎ (k [] 1 0 ≡ Nothing) → Good E w 0 (Data 1) ⊎ Bad E w 0 (Data 1)
+          one : Good₁ k ⊎ (k [] 1 0 ≡ None) → Good E w 0 (Data 1) ⊎ Bad E w 0 (Data 1)
           one (inl e) = inl e
           one (inr e) = inr (blind (ap (alone E 0 (Data 1)) e))
 
@@ -194,7 +192,7 @@ module _ (mark : ℕ) (sum : List ℕ → ℕ) (hm : mark < 2 ^ 8) (hs : SumLaw 
         shows on = gives E G C w I O 0 (omega arith) on f b fs lf lb (inr only)
 
       -- data block 1 is blind: data block 0 is lost
-      lost : k [] 1 0 ≡ Nothing → (on : Bool) → (read_in E w 0 o on f b fs).answer ≡ Err Lost
+      lost : k [] 1 0 ≡ None → (on : Bool) → (read_in E w 0 o on f b fs).answer ≡ Err Lost
       lost e on = loses E G C w I O 0 (omega arith) on f b fs lf lb never
         where
           never : Good E w 0 (Data 0) ⊎ OnlyBad E w 0 (Data 0) → ⊥
@@ -276,7 +274,7 @@ module _ (mark : ℕ) (sum : List ℕ → ℕ) (hm : mark < 2 ^ 8) (hs : SumLaw 
       V = view_in E w₁ 0
 
       -- the blocks before the write, as they are judged
-      blank_judged : (r : Role) → InStripe E r → V r ≡ Readable (block_of E blank_book.records 0 r)
+      blank_judged : (r : Role) → InStripe E r → V r ≡ Ok (block_of E blank_book.records 0 r)
       blank_judged r i = fine_good E C w₁ I₁ 0 r (omega arith) i (g.good 0 r (omega arith) i)
 
       swift : quick (V (Data 0)) (V Parity) 0 ≡ true
@@ -326,7 +324,7 @@ module _ (mark : ℕ) (sum : List ℕ → ℕ) (hm : mark < 2 ^ 8) (hs : SumLaw 
       scene : Scene (after_all m (q ∷ []))
       scene = record {
         own = lawful_after 3 1 m (q ∷ []) g.own;
-        parity = done.there ∙ ap Bytes (parity_good E G C w₁ I₁ O₁ 0 p o Subtractive fs W (g.good 0 Parity (omega arith) tt));
+        parity = done.there ∙ ap Some (parity_good E G C w₁ I₁ O₁ 0 p o Subtractive fs W (g.good 0 Parity (omega arith) tt));
         old = g.own [] q 0 0 (omega arith) (omega arith) (λ e. omega arith) ∙ g.good 0 (Data 0) (omega arith) (omega arith);
       }
 

@@ -1,10 +1,10 @@
 -- A world of a run: what is judged is what the book says.
+use Rattle.std.specs.Prelude.{Err}
 use Rattle.std.proofs.Common.{◌≡◌, ℕ, ◌+◌, ◌*◌, ◌/◌, ◌%◌, ◌<◌, Bool, true, false, ◌⊎◌, [], refl, ap, ◌∙◌, subst, inl, inr, mod-lt, mul_comm, div-lt_iff_lt-mul, div-add-mod', arith}
 use Rattle.std.proofs.lemmas.Bool.{lt-ltb, cond-true, both_ways}
 use Rattle.block.specs.declared.shapes.Defect.TheVariants.{Blind, Broken, Foreign}
 use Rattle.block.specs.declared.shapes.Role.{Role}
 use Rattle.block.specs.declared.shapes.Role.TheVariants.{Parity, Data}
-use Rattle.block.specs.declared.shapes.Verdict.TheVariants.{Unfit}
 use Rattle.block.specs.Judging.{Setup, alone}
 use Rattle.block.specs.Places.{slot_of}
 use Rattle.stripe.specs.Judge.{bad_role}
@@ -57,7 +57,7 @@ module _ (E : Setup) (C : CodecLaws E) (w : World) (I : Starts E w) where
   pub judged : (s : ℕ) (r : Role) → InStripe E r → view_in E w s r ≡ alone E s r (cell_of E w s r)
   unfolding view_of
   judged s r i =
-      cond-true (has_role E.D r) _ (Unfit Blind) (has_role_lem E r i)
+      cond-true (has_role E.D r) _ (Err Blind) (has_role_lem E r i)
       ∙ ap (λ t. alone E s r (seen_at (w.shelf [] (slot_of E.D s r) s) t s)) (I.same (slot_of E.D s r))
 
   pub fine_good : (s : ℕ) (r : Role) → s < E.S → InStripe E r → Good E w s r → Fine E s f (view_in E w s) r

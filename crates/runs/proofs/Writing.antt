@@ -1,9 +1,9 @@
 -- Writes leave good blocks good, and the records fit.
+use Rattle.std.specs.Prelude.{Some}
 use Rattle.std.proofs.Common.{◌≡◌, ℕ, suc, ◌+◌, ◌*◌, ◌/◌, ◌%◌, ◌^◌, ◌<◌, Bool, true, false, cond, eqb, ◌⊎◌, List, [], get_or, sym, refl, ap, ◌∙◌, subst, inl, inr, arith}
 use lib.Arith.{digits_div}
 use Rattle.std.proofs.lemmas.Bool.{eq-eqb, ne_eqb, cases_eq, cond-true, cond-false, both_ways}
-use Rattle.block.specs.declared.shapes.Cell.{Cell}
-use Rattle.block.specs.declared.shapes.Cell.TheVariants.{Bytes}
+use Rattle.block.specs.Shapes.{Cell}
 use Rattle.block.specs.declared.shapes.Role.{Role}
 use Rattle.block.specs.declared.shapes.Role.TheVariants.{Parity, Data}
 use Rattle.block.specs.Judging.{Setup}
@@ -100,14 +100,14 @@ module _ (E : Setup) (G : InRange E) (C : CodecLaws E) (w : World) (I : Starts E
   put_at s r x = expected (pair_writes E σ s₀ V j₀ y p o) (slot s r) s x
 
   abbrev Puts : ℕ → Role → Type 0
-  Puts s r = put_at s r (Bytes (block_of E B.records s r)) ≡ Bytes (block_of E f' s r)
+  Puts s r = put_at s r (Some (block_of E B.records s r)) ≡ Some (block_of E f' s r)
 
   both_other : (s : ℕ) (r : Role) → (slot s r ≡ w₁.slot → s ≡ s₀ → ⊥) → (slot s r ≡ w₂.slot → s ≡ s₀ → ⊥)
       → block_of E B.records s r ≡ block_of E f' s r → Puts s r
   both_other s r a b e =
-      expected_++ (sent σ w₁) (sent σ w₂) (slot s r) s (Bytes (block_of E B.records s r))
-      ∙ (sent_other σ w₂ (slot s r) s (expected (sent σ w₁) (slot s r) s (Bytes (block_of E B.records s r))) b
-      ∙ (sent_other σ w₁ (slot s r) s (Bytes (block_of E B.records s r)) a ∙ ap Bytes e))
+      expected_++ (sent σ w₁) (sent σ w₂) (slot s r) s (Some (block_of E B.records s r))
+      ∙ (sent_other σ w₂ (slot s r) s (expected (sent σ w₁) (slot s r) s (Some (block_of E B.records s r))) b
+      ∙ (sent_other σ w₁ (slot s r) s (Some (block_of E B.records s r)) a ∙ ap Some e))
 
   apart : (r q : Role) → (r ≡ q → ⊥) → slot s₀ r ≡ slot s₀ q → ⊥
   apart r q d e = d (one_role E.D s₀ r q e)
@@ -123,19 +123,19 @@ module _ (E : Setup) (G : InRange E) (C : CodecLaws E) (w : World) (I : Starts E
     O₀ = sorted E C w I O s₀ a₀
 
     -- the data block is put where its slot takes writes
-    pub put_data : (x : Cell) → takes_at (σ (slot s₀ (Data j₀))) s₀ ≡ true → put_at s₀ (Data j₀) x ≡ Bytes (block_of E f' s₀ (Data j₀))
+    pub put_data : (x : Cell) → takes_at (σ (slot s₀ (Data j₀))) s₀ ≡ true → put_at s₀ (Data j₀) x ≡ Some (block_of E f' s₀ (Data j₀))
     put_data x t =
         expected_++ (sent σ w₁) (sent σ w₂) (slot s₀ (Data j₀)) s₀ x
         ∙ (sent_other σ w₂ (slot s₀ (Data j₀)) s₀ (expected (sent σ w₁) (slot s₀ (Data j₀)) s₀ x)
         (λ e _. apart (Data j₀) Parity (no_parity j₀) e)
         ∙ (sent_here σ w₁ (slot s₀ (Data j₀)) s₀ x refl refl t
-        ∙ ap Bytes (new_data_lem E C s₀ a₀ B.records I.fits V j₀ l₀ O₀ (rec_at E f' s₀) p o new_rec)))
+        ∙ ap Some (new_data_lem E C s₀ a₀ B.records I.fits V j₀ l₀ O₀ (rec_at E f' s₀) p o new_rec)))
 
     -- and so is parity
-    pub put_parity : (x : Cell) (b : List ℕ) → takes_at (σ (slot s₀ Parity)) s₀ ≡ true → w₂.bytes ≡ b → put_at s₀ Parity x ≡ Bytes b
+    pub put_parity : (x : Cell) (b : List ℕ) → takes_at (σ (slot s₀ Parity)) s₀ ≡ true → w₂.bytes ≡ b → put_at s₀ Parity x ≡ Some b
     put_parity x b t e =
         expected_++ (sent σ w₁) (sent σ w₂) (slot s₀ Parity) s₀ x
-        ∙ (sent_here σ w₂ (slot s₀ Parity) s₀ (expected (sent σ w₁) (slot s₀ Parity) s₀ x) refl refl t ∙ ap Bytes e)
+        ∙ (sent_here σ w₂ (slot s₀ Parity) s₀ (expected (sent σ w₁) (slot s₀ Parity) s₀ x) refl refl t ∙ ap Some e)
 
     -- off the quick path the parity written is that of the new records
     pub parity_off : swift y V j₀ ≡ false → w₂.bytes ≡ block_of E f' s₀ Parity
@@ -155,13 +155,13 @@ module _ (E : Setup) (G : InRange E) (C : CodecLaws E) (w : World) (I : Starts E
 
     put_near : (r : Role) → InStripe E r → Good E w s₀ r → Puts s₀ r
     put_near Parity i g =
-        put_parity (Bytes (block_of E B.records s₀ Parity)) (block_of E f' s₀ Parity) (good_takes_in E w I s₀ Parity g) (parity_good g)
+        put_parity (Some (block_of E B.records s₀ Parity)) (block_of E f' s₀ Parity) (good_takes_in E w I s₀ Parity g) (parity_good g)
     put_near (Data k) i g = go (cases_eq k j₀)
       where
         go : (k ≡ j₀) ⊎ (k ≡ j₀ → ⊥) → Puts s₀ (Data k)
         go (inl e) =
             subst (λ z. Good E w s₀ (Data z) → Puts s₀ (Data z)) (sym e)
-            (λ h. put_data (Bytes (block_of E B.records s₀ (Data j₀))) (good_takes_in E w I s₀ (Data j₀) h)) g
+            (λ h. put_data (Some (block_of E B.records s₀ (Data j₀))) (good_takes_in E w I s₀ (Data j₀) h)) g
         go (inr d) =
             both_other s₀ (Data k) (λ e _. apart (Data k) (Data j₀) (λ z. let q : k ≡ j₀ = cc in d q) e)
             (λ e _. apart (Data k) Parity (no_parity k) e) (ap (data_of E s₀ k) (sym (old_rec k d)))
@@ -198,13 +198,13 @@ module _ (E : Setup) (G : InRange E) (C : CodecLaws E) (w : World) (I : Starts E
       (after_writes E w I ws s r (block_of E (B' X).records s r) a i g did (go (write_outcome E (w.shelf []) σ L p o y fs)))
     where
       go : ((X ≡ false) × (ws ≡ [])) ⊎ ((X ≡ true) × Accepted E V σ L p o y ws)
-          → expected ws (slot s r) s (Bytes (block_of E B.records s r)) ≡ Bytes (block_of E (B' X).records s r)
+          → expected ws (slot s r) s (Some (block_of E B.records s r)) ≡ Some (block_of E (B' X).records s r)
       go (inl h) =
-          ap (λ z. expected z (slot s r) s (Bytes (block_of E B.records s r))) h.1
-          ∙ ap (λ t. Bytes (block_of E (B' t).records s r)) (sym h.0)
+          ap (λ z. expected z (slot s r) s (Some (block_of E B.records s r))) h.1
+          ∙ ap (λ t. Some (block_of E (B' t).records s r)) (sym h.0)
       go (inr h) =
-          ap (λ z. expected z (slot s r) s (Bytes (block_of E B.records s r))) h.1.pair
-          ∙ (put_any h.1 s r i g (cases_eq s s₀) ∙ ap (λ t. Bytes (block_of E (B' t).records s r)) (sym h.0))
+          ap (λ z. expected z (slot s r) s (Some (block_of E B.records s r))) h.1.pair
+          ∙ (put_any h.1 s r i g (cases_eq s s₀) ∙ ap (λ t. Some (block_of E (B' t).records s r)) (sym h.0))
 
   -- the records of the book after the write fit
   pub write_fits : ((i : ℕ) → get_or p i 0 < 2 ^ 8) → o < 2 ^ 32 → (K : ℕ) → Fits ((B' X).records K)

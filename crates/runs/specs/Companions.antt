@@ -1,8 +1,7 @@
 -- Beside the law: what the calls make good, what they leave bad, and how the calls of many stripes are steps of a run.
-use Rattle.std.specs.Prelude.{◌≡◌, ℕ, zero, suc, ◌/◌, ◌%◌, ◌^◌, ◌<◌, ◌≤◌, true, false, ◌⊎◌, List, [], None, ◌≢◌, slice_index}
+use Rattle.std.specs.Prelude.{◌≡◌, ℕ, zero, suc, ◌/◌, ◌%◌, ◌^◌, ◌<◌, ◌≤◌, true, false, ◌⊎◌, List, [], None, ◌≢◌, slice_index, Ok}
 use Rattle.block.specs.declared.shapes.Role.{Role}
 use Rattle.block.specs.declared.shapes.Role.TheVariants.{Parity, Data}
-use Rattle.block.specs.declared.shapes.Verdict.TheVariants.{Readable}
 use Rattle.block.specs.Judging.{Setup, alone}
 use Rattle.block.specs.Layout.{version_of}
 use Rattle.block.specs.Places.{slot_of}
@@ -86,7 +85,7 @@ SameParity =
 
 -- the parity block b of stripe s is behind at index k: readable, no version higher than its record's, and version k lower
 pub record BehindAt (E : Setup) (w : World) (s k : ℕ) (b : List ℕ) : Type 0 where
-  pub readable : alone E s Parity (cell_of E w s Parity) ≡ Readable b
+  pub readable : alone E s Parity (cell_of E w s Parity) ≡ Ok b
   pub highest : (i : ℕ) → i < E.D → version_of b i ≤ (rec_at E w.book.records s i).version
   pub lower : version_of b k < (rec_at E w.book.records s k).version
 

@@ -1,8 +1,7 @@
 -- How a read obtains a block from a stripe.
-use Rattle.std.specs.Prelude.{ℕ, ◌+◌, Bool, false, cond, List, [], ◌∷◌, Some, None, Option, ◌==◌}
+use Rattle.std.specs.Prelude.{ℕ, ◌+◌, Bool, false, cond, List, [], ◌∷◌, Some, None, Option, ◌==◌, Ok, Err}
 use Rattle.block.specs.declared.shapes.Role.TheVariants.{Parity, Data}
-use Rattle.block.specs.declared.shapes.Verdict.{Verdict}
-use Rattle.block.specs.declared.shapes.Verdict.TheVariants.{Unfit, Readable}
+use Rattle.block.specs.Shapes.{Verdict}
 use Rattle.block.specs.Judging.{Setup}
 use Rattle.block.specs.Layout.{version_of}
 use Rattle.block.specs.Places.{slot_of}
@@ -19,9 +18,9 @@ use Rattle.runs.specs.declared.shapes.Patch.{Patch}
 
 -- data block j and parity are both readable, and the lead is 0
 abbrev pub quick : Verdict → Verdict → ℕ → Bool
-quick (Unfit c) q j = false
-quick (Readable b) (Unfit c) j = false
-quick (Readable b) (Readable p) j = version_of b 0 == version_of p j
+quick (Err c) q j = false
+quick (Ok b) (Err c) j = false
+quick (Ok b) (Ok p) j = version_of b 0 == version_of p j
 
 abbrev pub patch_by : Setup → ℕ → View → Decision → Option Patch
 patch_by E s V Clean = None
@@ -43,8 +42,8 @@ patched_slot σ s None = None
 patched_slot σ s (Some p) = cond (takes_at (σ p.slot) s) (Some p.slot) None
 
 abbrev pub as_found : Verdict → Obtained
-as_found (Unfit c) = Lost
-as_found (Readable b) = Found b
+as_found (Err c) = Lost
+as_found (Ok b) = Found b
 
 abbrev pub as_rebuilt : Option Patch → Obtained
 as_rebuilt None = Lost

@@ -1,11 +1,9 @@
 -- The law over runs.
 use Rattle.std.specs.Prelude.{◌≡◌, ℕ, ◌+◌, ◌*◌, ◌/◌, ◌%◌, ◌^◌, ◌<◌, ◌≤◌, Bool, true, ◌⊎◌, List, [], ◌∷◌, ◌++◌, length, Some, Err, ◌≢◌, slice_index, slice_set}
 use Rattle.block.specs.declared.refusal.Refusal.TheVariants.{Lost}
-use Rattle.block.specs.declared.shapes.Cell.TheVariants.{Bytes}
 use Rattle.block.specs.declared.shapes.Defect.TheVariants.{Broken}
 use Rattle.block.specs.declared.shapes.Role.{Role}
 use Rattle.block.specs.declared.shapes.Role.TheVariants.{Data}
-use Rattle.block.specs.declared.shapes.Verdict.TheVariants.{Unfit}
 use Rattle.block.specs.Judging.{Setup, alone}
 use Rattle.block.specs.Places.{slot_of}
 use Rattle.checksum.specs.Rows.{Row, OneApart}
@@ -105,8 +103,8 @@ SpoilsNone E w k =
 -- A good block, any one of its 128 bytes changed to any other value, is judged broken.
 abbrev pub OneByteShows : Setup → World → Type 0
 OneByteShows E w =
-    (s : ℕ) (r : Role) (b : List ℕ) (i v : ℕ) → s < E.S → InStripe E r → Good E w s r → cell_of E w s r ≡ Bytes b → i < 128
-    → v < 2 ^ 8 → (slice_index b i ≢ v) → alone E s r (Bytes (slice_set b i v)) ≡ Unfit Broken
+    (s : ℕ) (r : Role) (b : List ℕ) (i v : ℕ) → s < E.S → InStripe E r → Good E w s r → cell_of E w s r ≡ Some b → i < 128
+    → v < 2 ^ 8 → (slice_index b i ≢ v) → alone E s r (Some (slice_set b i v)) ≡ Err Broken
 
 pub record Keeps (E : Setup) (w : World) : Type 0 where
   pub reads : ReadsRight E w

@@ -1,12 +1,10 @@
 -- Runs: lists of calls and damage, beside which the book goes.
 use Rattle.std.specs.Prelude.{◌≡◌, ℕ, ◌+◌, ◌^◌, ◌<◌, ◌≤◌, Bool, true, false, cond, ◌⊎◌, List, [], Some, None, Ok, Err, Option, Result, ◌≢◌, nat_le, nat_lt, slice_index}
 use Rattle.block.specs.declared.refusal.Refusal.{Refusal}
-use Rattle.block.specs.declared.shapes.Cell.{Cell}
-use Rattle.block.specs.declared.shapes.Cell.TheVariants.{Bytes}
+use Rattle.block.specs.Shapes.{Cell}
 use Rattle.block.specs.declared.shapes.Defect.TheVariants.{Blind, Broken, Foreign}
 use Rattle.block.specs.declared.shapes.Role.{Role}
 use Rattle.block.specs.declared.shapes.Role.TheVariants.{Parity, Data}
-use Rattle.block.specs.declared.shapes.Verdict.TheVariants.{Unfit, Readable}
 use Rattle.block.specs.Judging.{Setup, alone}
 use Rattle.block.specs.Layout.{version_of}
 use Rattle.block.specs.Places.{slot_of}
@@ -135,7 +133,7 @@ cell_of E w s r = seen_at (w.shelf [] (slot_of E.D s r) s) (w.book.slots (slot_o
 
 -- a block is good if it is not blind and is exactly the block of the book's records
 abbrev pub Good : Setup → World → ℕ → Role → Type 0
-Good E w s r = cell_of E w s r ≡ Bytes (block_of E w.book.records s r)
+Good E w s r = cell_of E w s r ≡ Some (block_of E w.book.records s r)
 
 -- lower versions than the record's: for data its own, for parity none higher and at least one lower
 abbrev pub Lower : Setup → (ℕ → Rec) → ℕ → Role → List ℕ → Type 0
@@ -146,10 +144,10 @@ Lower E f s (Data j) b = version_of b 0 < (rec_at E f s j).version
 
 -- the four ways of being bad
 pub data Bad (E : Setup) (w : World) (s : ℕ) (r : Role) : Type 0 where
-  blind : alone E s r (cell_of E w s r) ≡ Unfit Blind → Bad E w s r
-  broken : alone E s r (cell_of E w s r) ≡ Unfit Broken → Bad E w s r
-  foreign : alone E s r (cell_of E w s r) ≡ Unfit Foreign → Bad E w s r
-  behind : (b : List ℕ) → alone E s r (cell_of E w s r) ≡ Readable b → Lower E w.book.records s r b → Bad E w s r
+  blind : alone E s r (cell_of E w s r) ≡ Err Blind → Bad E w s r
+  broken : alone E s r (cell_of E w s r) ≡ Err Broken → Bad E w s r
+  foreign : alone E s r (cell_of E w s r) ≡ Err Foreign → Bad E w s r
+  behind : (b : List ℕ) → alone E s r (cell_of E w s r) ≡ Ok b → Lower E w.book.records s r b → Bad E w s r
 
 -- at most one kind of trouble in a stripe: every block is good or bad in one of the four ways,
 -- and no stripe has bad parity beside bad data

@@ -1,7 +1,6 @@
 -- The law over runs is not empty: orderly runs exist, and in one of them a read is given rebuilt and a later one says lost.
-use Rattle.std.specs.Prelude.{◌≡◌, ℕ, ◌+◌, ◌^◌, ◌<◌, ◌≤◌, Bool, false, cond, List, [], ◌∷◌, length, Some, Ok, Err, ◌==◌}
+use Rattle.std.specs.Prelude.{◌≡◌, ℕ, ◌+◌, ◌^◌, ◌<◌, ◌≤◌, Bool, false, cond, List, [], ◌∷◌, length, Some, Ok, Err, ◌==◌, None}
 use Rattle.block.specs.declared.refusal.Refusal.TheVariants.{Lost}
-use Rattle.block.specs.declared.shapes.Cell.TheVariants.{Nothing}
 use Rattle.block.specs.declared.shapes.Role.{Role}
 use Rattle.block.specs.Judging.{Setup}
 use Rattle.shelf.specs.Model.{Conduct, Faithful, OwnCard, Write}
@@ -77,7 +76,7 @@ losing c m ws = m (drop_first c ws)
 
 -- card c turns blind
 abbrev pub blinding : ℕ → Conduct → Conduct
-blinding c m ws i j = cond (i == c) Nothing (m ws i j)
+blinding c m ws i j = cond (i == c) None (m ws i j)
 
 -- the smallest array: three cards of one block each, data blocks 0 and 1 on cards 0 and 1, parity on card 2
 abbrev pub smallest : ℕ → (List ℕ → ℕ) → Setup

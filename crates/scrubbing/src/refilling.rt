@@ -46,7 +46,7 @@ fn stripe_patch<W: WritableShelf, C: Checksum>(
 ) -> Option<Patch>
     requires cards { W.cards shelf.now ≡ frame.width + 1 }
     requires within { s < W.blocks shelf.now }
-    ensures { (c : ℕ) → refill_from c s result ≡ rebuild_writes (setup frame C.marked C.meaning) (W.conduct shelf.now []) (slots_in states.now) s c }
+    ensures { (c : ℕ) → refill_from c s result ≡ rebuild_writes (setup frame C.MARK C.meaning) (W.conduct shelf.now []) (slots_in states.now) s c }
 {
     let stripe = look::<W, C>(shelf, frame, states, s);
     patch_of::<C>(&stripe.parity, &stripe.data, frame, s)
@@ -63,8 +63,8 @@ fn refill_one<W: WritableShelf, C: Checksum>(
     requires cards { W.cards shelf.old ≡ frame.width + 1 }
     requires within { s < W.blocks shelf.old }
     requires placed { slot ≤ frame.width }
-    ensures is { result ≡ any_write (rebuild_writes (setup frame C.marked C.meaning) (W.conduct shelf.old []) (slots_in states.now) s slot) }
-    ensures wrote { W.conduct shelf.new ≡ after_all (W.conduct shelf.old) (rebuild_writes (setup frame C.marked C.meaning) (W.conduct shelf.old []) (slots_in states.now) s slot) }
+    ensures is { result ≡ any_write (rebuild_writes (setup frame C.MARK C.meaning) (W.conduct shelf.old []) (slots_in states.now) s slot) }
+    ensures wrote { W.conduct shelf.new ≡ after_all (W.conduct shelf.old) (rebuild_writes (setup frame C.MARK C.meaning) (W.conduct shelf.old []) (slots_in states.now) s slot) }
     ensures cards { W.cards shelf.new ≡ W.cards shelf.old }
     ensures blocks { W.blocks shelf.new ≡ W.blocks shelf.old }
 {
@@ -111,7 +111,7 @@ fn refill_at<W: WritableShelf, C: Checksum>(
     requires placed { slot ≤ frame.width }
     requires few { i < 65536 }
     requires below { RebuildBelow counts i }
-    ensures did { rebuilding (W.conduct shelf.new) (slots_in states.new) result ≡ refill (setup frame C.marked C.meaning) slot s (rebuilding (W.conduct shelf.old) (slots_in states.old) counts) }
+    ensures did { rebuilding (W.conduct shelf.new) (slots_in states.new) result ≡ refill (setup frame C.MARK C.meaning) slot s (rebuilding (W.conduct shelf.old) (slots_in states.old) counts) }
     ensures below { RebuildBelow result (i + 1) }
     ensures cards { W.cards shelf.new ≡ W.cards shelf.old }
     ensures blocks { W.blocks shelf.new ≡ W.blocks shelf.old }
@@ -135,7 +135,7 @@ fn refill_next<W: WritableShelf, C: Checksum>(
     requires placed { slot ≤ frame.width }
     requires few { i < 65536 }
     requires below { RebuildBelow counts i }
-    ensures did { rebuilding (W.conduct shelf.new) (slots_in states.new) result ≡ refill_next (setup frame C.marked C.meaning) slot (rebuilding (W.conduct shelf.old) (slots_in states.old) counts) }
+    ensures did { rebuilding (W.conduct shelf.new) (slots_in states.new) result ≡ refill_next (setup frame C.MARK C.meaning) slot (rebuilding (W.conduct shelf.old) (slots_in states.old) counts) }
     ensures below { RebuildBelow result (i + 1) }
     ensures cards { W.cards shelf.new ≡ W.cards shelf.old }
     ensures blocks { W.blocks shelf.new ≡ W.blocks shelf.old }
@@ -165,9 +165,9 @@ fn refill_many<W: WritableShelf, C: Checksum>(
     requires blocks { W.blocks shelf.old ≡ frame.blocks }
     requires few { stripes ≤ 65536 }
     requires placed { slot ≤ frame.width }
-    requires allowed { rebuild_refused (setup frame C.marked C.meaning) (slots_in states.old) slot stripes ≡ NotRefused }
-    ensures answer { Ok result ≡ rebuild_answer (setup frame C.marked C.meaning) (W.conduct shelf.old) (slots_in states.old) slot stripes }
-    ensures done { RebuildDone (rebuild_end (setup frame C.marked C.meaning) (W.conduct shelf.old) (slots_in states.old) slot stripes) (W.conduct shelf.new) (slots_in states.new) }
+    requires allowed { rebuild_refused (setup frame C.MARK C.meaning) (slots_in states.old) slot stripes ≡ NotRefused }
+    ensures answer { Ok result ≡ rebuild_answer (setup frame C.MARK C.meaning) (W.conduct shelf.old) (slots_in states.old) slot stripes }
+    ensures done { RebuildDone (rebuild_end (setup frame C.MARK C.meaning) (W.conduct shelf.old) (slots_in states.old) slot stripes) (W.conduct shelf.new) (slots_in states.new) }
     ensures cards { W.cards shelf.new ≡ W.cards shelf.old }
     ensures blocks { W.blocks shelf.new ≡ W.blocks shelf.old }
 {
@@ -206,7 +206,7 @@ fn refused_by<C: Checksum>(
     slot: u32,
     stripes: u32,
 ) -> Option<Refusal>
-    ensures is { result ≡ rebuild_refused (setup frame C.marked C.meaning) (slots_in states.now) slot stripes }
+    ensures is { result ≡ rebuild_refused (setup frame C.MARK C.meaning) (slots_in states.now) slot stripes }
     ensures placed { result ≡ NotRefused → slot ≤ frame.width }
     ensures few { result ≡ NotRefused → stripes ≤ 65536 }
 {
@@ -231,8 +231,8 @@ pub fn rebuild_call<W: WritableShelf, C: Checksum>(
 ) -> Result<RebuildCounts, Refusal>
     requires cards { W.cards shelf.old ≡ frame.width + 1 }
     requires blocks { W.blocks shelf.old ≡ frame.blocks }
-    ensures answer { result ≡ rebuild_answer (setup frame C.marked C.meaning) (W.conduct shelf.old) (slots_in states.old) slot stripes }
-    ensures done { RebuildDone (rebuild_end (setup frame C.marked C.meaning) (W.conduct shelf.old) (slots_in states.old) slot stripes) (W.conduct shelf.new) (slots_in states.new) }
+    ensures answer { result ≡ rebuild_answer (setup frame C.MARK C.meaning) (W.conduct shelf.old) (slots_in states.old) slot stripes }
+    ensures done { RebuildDone (rebuild_end (setup frame C.MARK C.meaning) (W.conduct shelf.old) (slots_in states.old) slot stripes) (W.conduct shelf.new) (slots_in states.new) }
     ensures long { length states.new ≡ 8 }
     ensures cards { W.cards shelf.new ≡ W.cards shelf.old }
     ensures blocks { W.blocks shelf.new ≡ W.blocks shelf.old }

@@ -64,9 +64,9 @@ fn sweep_one<W: WritableShelf, C: Checksum>(
 ) -> Swept
     requires cards { W.cards shelf.old ≡ frame.width + 1 }
     requires within { s < W.blocks shelf.old }
-    ensures is { result ≡ swept_of (setup frame C.marked C.meaning) (W.conduct shelf.old []) (slots_in states.now) s }
-    ensures wrote { W.conduct shelf.new ≡ after_all (W.conduct shelf.old) (sweep_writes (setup frame C.marked C.meaning) (W.conduct shelf.old []) (slots_in states.now) s) }
-    ensures findings { findings.new ≡ (if last then sweep_findings (setup frame C.marked C.meaning) (W.conduct shelf.old []) (slots_in states.now) s else findings.old) }
+    ensures is { result ≡ swept_of (setup frame C.MARK C.meaning) (W.conduct shelf.old []) (slots_in states.now) s }
+    ensures wrote { W.conduct shelf.new ≡ after_all (W.conduct shelf.old) (sweep_writes (setup frame C.MARK C.meaning) (W.conduct shelf.old []) (slots_in states.now) s) }
+    ensures findings { findings.new ≡ (if last then sweep_findings (setup frame C.MARK C.meaning) (W.conduct shelf.old []) (slots_in states.now) s else findings.old) }
     ensures cards { W.cards shelf.new ≡ W.cards shelf.old }
     ensures blocks { W.blocks shelf.new ≡ W.blocks shelf.old }
 {
@@ -153,8 +153,8 @@ fn sweep_many<W: WritableShelf, C: Checksum>(
     requires cards { W.cards shelf.old ≡ frame.width + 1 }
     requires blocks { W.blocks shelf.old ≡ frame.blocks }
     requires few { stripes ≤ 65536 }
-    ensures answer { Ok result ≡ scrub_answer (setup frame C.marked C.meaning) (W.conduct shelf.old) (slots_in states.now) cursor.old stripes findings.old }
-    ensures done { ScrubDone (scrub_end (setup frame C.marked C.meaning) (W.conduct shelf.old) (slots_in states.now) cursor.old stripes findings.old) (W.conduct shelf.new) cursor.new findings.new }
+    ensures answer { Ok result ≡ scrub_answer (setup frame C.MARK C.meaning) (W.conduct shelf.old) (slots_in states.now) cursor.old stripes findings.old }
+    ensures done { ScrubDone (scrub_end (setup frame C.MARK C.meaning) (W.conduct shelf.old) (slots_in states.now) cursor.old stripes findings.old) (W.conduct shelf.new) cursor.new findings.new }
     ensures cards { W.cards shelf.new ≡ W.cards shelf.old }
     ensures blocks { W.blocks shelf.new ≡ W.blocks shelf.old }
 {
@@ -187,8 +187,8 @@ pub fn scrub_call<W: WritableShelf, C: Checksum>(
 ) -> Result<ScrubCounts, Refusal>
     requires cards { W.cards shelf.old ≡ frame.width + 1 }
     requires blocks { W.blocks shelf.old ≡ frame.blocks }
-    ensures answer { result ≡ scrub_answer (setup frame C.marked C.meaning) (W.conduct shelf.old) (slots_in states.now) cursor.old stripes findings.old }
-    ensures done { ScrubDone (scrub_end (setup frame C.marked C.meaning) (W.conduct shelf.old) (slots_in states.now) cursor.old stripes findings.old) (W.conduct shelf.new) cursor.new findings.new }
+    ensures answer { result ≡ scrub_answer (setup frame C.MARK C.meaning) (W.conduct shelf.old) (slots_in states.now) cursor.old stripes findings.old }
+    ensures done { ScrubDone (scrub_end (setup frame C.MARK C.meaning) (W.conduct shelf.old) (slots_in states.now) cursor.old stripes findings.old) (W.conduct shelf.new) cursor.new findings.new }
     ensures cards { W.cards shelf.new ≡ W.cards shelf.old }
     ensures blocks { W.blocks shelf.new ≡ W.blocks shelf.old }
 {

@@ -1,8 +1,8 @@
 -- What the promises of a shelf come to at a place that it has. Assumes nothing.
+use Rattle.std.specs.Prelude.{Some, None}
 use Rattle.std.proofs.Common.{◌≡◌, ℕ, ◌<◌, true, List, [], ◌∷◌, length, Ok, Err, Result, refl, ap, ◌∙◌, arith}
 use Rattle.std.proofs.lemmas.Bool.{cond-true, and_from, lt-ltb, eq-eqb}
-use Rattle.block.specs.declared.shapes.Cell.{Cell}
-use Rattle.block.specs.declared.shapes.Cell.TheVariants.{Bytes, Nothing}
+use Rattle.block.specs.Shapes.{Cell}
 use Rattle.shelf.specs.declared.Sight.{Sight}
 use Rattle.shelf.specs.declared.Sight.TheVariants.{Present, Blind}
 use Rattle.block.specs.declared.refusal.Refusal.{Refusal}
@@ -25,19 +25,19 @@ module _ (n s i j : ℕ) (hi : i < n) (hj : j < s) where
   taken bs e = cond-true _ _ _ (and_from _ _ (eq-eqb _ _ e) within)
 
 module _ (x : Cell) (v : Sight) (e : ◌≡◌ {A = Result Sight Refusal} (Ok v) (Ok (sight_of x))) where
-  pub is_bytes : (b : List ℕ) → v ≡ Present → b ≡ shown_of x → Bytes b ≡ x
+  pub is_bytes : (b : List ℕ) → v ≡ Present → b ≡ shown_of x → Some b ≡ x
   is_bytes b p h = go x e h
     where
-      go : (y : Cell) → ◌≡◌ {A = Result Sight Refusal} (Ok v) (Ok (sight_of y)) → b ≡ shown_of y → Bytes b ≡ y
-      go (Bytes c) d q = ap Bytes q
-      go Nothing d q = let z : ◌≡◌ {A = ℕ} 0 1 = cc in absurd (omega arith)
+      go : (y : Cell) → ◌≡◌ {A = Result Sight Refusal} (Ok v) (Ok (sight_of y)) → b ≡ shown_of y → Some b ≡ y
+      go (Some c) d q = ap Some q
+      go None d q = let z : ◌≡◌ {A = ℕ} 0 1 = cc in absurd (omega arith)
 
-  pub is_nothing : v ≡ Blind → Nothing ≡ x
+  pub is_nothing : v ≡ Blind → None ≡ x
   is_nothing p = go x e
     where
-      go : (y : Cell) → ◌≡◌ {A = Result Sight Refusal} (Ok v) (Ok (sight_of y)) → Nothing ≡ y
-      go (Bytes c) d = let z : ◌≡◌ {A = ℕ} 0 1 = cc in absurd (omega arith)
-      go Nothing d = refl
+      go : (y : Cell) → ◌≡◌ {A = Result Sight Refusal} (Ok v) (Ok (sight_of y)) → None ≡ y
+      go (Some c) d = let z : ◌≡◌ {A = ℕ} 0 1 = cc in absurd (omega arith)
+      go None d = refl
 
-pub not_err : (x : Cell) (y : Refusal) → ◌≡◌ {A = Result Sight Refusal} (Err y) (Ok (sight_of x)) → Nothing ≡ x
+pub not_err : (x : Cell) (y : Refusal) → ◌≡◌ {A = Result Sight Refusal} (Err y) (Ok (sight_of x)) → None ≡ x
 not_err x y e = let z : ◌≡◌ {A = ℕ} 0 1 = cc in absurd (omega arith)

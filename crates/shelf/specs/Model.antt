@@ -1,9 +1,8 @@
 -- What a shelf holds, and how it answers reads and writes.
-use Rattle.std.specs.Prelude.{◌≡◌, ℕ, ◌<◌, Bool, cond, ◌&&◌, List, [], ◌∷◌, ◌++◌, length, replicate, Ok, Err, Result, ◌==◌, ◌≢◌, nat_lt}
+use Rattle.std.specs.Prelude.{◌≡◌, ℕ, ◌<◌, Bool, cond, ◌&&◌, List, [], ◌∷◌, ◌++◌, length, replicate, Ok, Err, Result, ◌==◌, ◌≢◌, nat_lt, Some, None}
 use Rattle.block.specs.declared.refusal.Refusal.{Refusal}
 use Rattle.block.specs.declared.refusal.Refusal.TheVariants.{Length, Place}
-use Rattle.block.specs.declared.shapes.Cell.{Cell}
-use Rattle.block.specs.declared.shapes.Cell.TheVariants.{Nothing, Bytes}
+use Rattle.block.specs.Shapes.{Cell}
 use Rattle.shelf.specs.declared.Sight.{Sight}
 use Rattle.shelf.specs.declared.Sight.TheVariants.{Present, Blind}
 
@@ -33,15 +32,15 @@ OwnCard n s k =
     (ws : List Write) (w : Write) (i j : ℕ) → i < n → j < s → (i ≢ w.slot) → k (ws ++ w ∷ []) i j ≡ k ws i j
 
 abbrev pub Sized : Cell → Type 0
-Sized Nothing = Unit {0}
-Sized (Bytes bs) = length bs ≡ 128
+Sized None = Unit {0}
+Sized (Some bs) = length bs ≡ 128
 
 abbrev pub AllSized : ℕ → ℕ → Content → Type 0
 AllSized n s c = (i j : ℕ) → i < n → j < s → Sized (c i j)
 
 -- the shelf does the write as told: then the named place holds the bytes and no other place has changed
 pub record AsTold (n s : ℕ) (k : Conduct) (w : Write) : Type 0 where
-  pub there : k (w ∷ []) w.slot w.block ≡ Bytes w.bytes
+  pub there : k (w ∷ []) w.slot w.block ≡ Some w.bytes
   pub elsewhere : (i j : ℕ) → i < n → j < s → ((i ≡ w.slot) × (j ≡ w.block) → ⊥) → k (w ∷ []) i j ≡ k [] i j
 
 -- whatever was written before, the shelf does every write of a whole block to one of its places as told
@@ -54,12 +53,12 @@ abbrev pub inside : ℕ → ℕ → ℕ → ℕ → Bool
 inside n s i j = nat_lt i n && nat_lt j s
 
 abbrev pub sight_of : Cell → Sight
-sight_of Nothing = Blind
-sight_of (Bytes b) = Present
+sight_of None = Blind
+sight_of (Some b) = Present
 
 abbrev pub shown_of : Cell → List ℕ
-shown_of Nothing = replicate 128 0
-shown_of (Bytes b) = b
+shown_of None = replicate 128 0
+shown_of (Some b) = b
 
 -- a wrong length is refused first, then a place out of range
 unfoldable pub read_answer : ℕ → ℕ → Content → ℕ → ℕ → ℕ → Result Sight Refusal

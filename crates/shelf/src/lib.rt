@@ -75,11 +75,9 @@ pub fn fetch<R: ReadableShelf>(shelf: &R, slot: u32, block: u32) -> Cell
 {
     let mut bytes = [0u8; 128];
     match shelf.read(slot, block, &mut bytes) {
-        Ok(sight) => match sight {
-            Sight::Present => Cell::Bytes(bytes),
-            Sight::Blind => Cell::Nothing,
-        },
-        Err(_) => Cell::Nothing,
+        Ok(Sight::Present) => Some(bytes),
+        Ok(Sight::Blind) => None,
+        Err(_) => None,
     }
 }
 

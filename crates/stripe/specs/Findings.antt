@@ -1,11 +1,10 @@
 -- What is found at each place of a stripe.
-use Rattle.std.specs.Prelude.{ℕ, zero, suc, Bool, false, cond, ◌||◌, List, ℤ, pos, ◌-ℤ◌, Some, None, Option, ◌==◌, int_lt, nat_le}
+use Rattle.std.specs.Prelude.{ℕ, zero, suc, Bool, false, cond, ◌||◌, List, ℤ, pos, ◌-ℤ◌, Some, None, Option, ◌==◌, int_lt, nat_le, Ok, Err}
 use Rattle.block.specs.declared.shapes.Defect.{Defect}
 use Rattle.block.specs.declared.shapes.Defect.TheVariants.{Blind, Broken, Foreign}
 use Rattle.block.specs.declared.shapes.Role.{Role}
 use Rattle.block.specs.declared.shapes.Role.TheVariants.{Parity, Data}
-use Rattle.block.specs.declared.shapes.Verdict.{Verdict}
-use Rattle.block.specs.declared.shapes.Verdict.TheVariants.{Unfit, Readable}
+use Rattle.block.specs.Shapes.{Verdict}
 use Rattle.block.specs.Layout.{table, version_of}
 use Rattle.block.specs.Places.{role_at, slot_of}
 use Rattle.stripe.specs.declared.shapes.Cause.{Cause}
@@ -37,14 +36,14 @@ layer_in (Bad c) = Some (layer_of c)
 
 -- a block by its verdict, and whether it is in the mask
 abbrev pub condition_of : Verdict → Bool → Condition
-condition_of (Unfit c) b = Bad (cause_of c)
-condition_of (Readable x) b = cond b (Bad Behind) IsReadable
+condition_of (Err c) b = Bad (cause_of c)
+condition_of (Ok x) b = cond b (Bad Behind) IsReadable
 
 -- the version of data block j minus the mirrored one, if both blocks are readable
 abbrev pub lead_at : Verdict → Verdict → ℕ → Option ℤ
-lead_at (Unfit c) q j = None
-lead_at (Readable b) (Unfit c) j = None
-lead_at (Readable b) (Readable p) j = Some (pos (version_of b 0) -ℤ pos (version_of p j))
+lead_at (Err c) q j = None
+lead_at (Ok b) (Err c) j = None
+lead_at (Ok b) (Ok p) j = Some (pos (version_of b 0) -ℤ pos (version_of p j))
 
 -- the greater of two leads, if any
 abbrev pub greater : Option ℤ → Option ℤ → Option ℤ

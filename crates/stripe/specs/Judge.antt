@@ -1,9 +1,8 @@
 -- Judging a stripe by the verdicts of its blocks.
-use Rattle.std.specs.Prelude.{ℕ, zero, suc, ◌+◌, Bool, true, false, ◌||◌, List, nat_lt}
+use Rattle.std.specs.Prelude.{ℕ, zero, suc, ◌+◌, Bool, true, false, ◌||◌, List, nat_lt, Ok, Err}
 use Rattle.block.specs.declared.shapes.Role.{Role}
 use Rattle.block.specs.declared.shapes.Role.TheVariants.{Parity, Data}
-use Rattle.block.specs.declared.shapes.Verdict.{Verdict}
-use Rattle.block.specs.declared.shapes.Verdict.TheVariants.{Unfit, Readable}
+use Rattle.block.specs.Shapes.{Verdict}
 use Rattle.block.specs.Layout.{table, version_of}
 use Rattle.block.specs.Places.{role_at}
 use Rattle.stripe.specs.declared.shapes.Decision.{Decision}
@@ -13,14 +12,14 @@ use Rattle.stripe.specs.View.{View}
 
 -- the data block of index j is unfit, or behind: its version is below the mirrored one
 abbrev pub lags_at : Verdict → Verdict → ℕ → Bool
-lags_at (Unfit c) q j = true
-lags_at (Readable b) (Unfit c) j = false
-lags_at (Readable b) (Readable p) j = nat_lt (version_of b 0) (version_of p j)
+lags_at (Err c) q j = true
+lags_at (Ok b) (Err c) j = false
+lags_at (Ok b) (Ok p) j = nat_lt (version_of b 0) (version_of p j)
 
 -- the version of the data block of index j is above the one that p mirrors
 abbrev pub leads_at : Verdict → List ℕ → ℕ → Bool
-leads_at (Unfit c) p j = false
-leads_at (Readable b) p j = nat_lt (version_of p j) (version_of b 0)
+leads_at (Err c) p j = false
+leads_at (Ok b) p j = nat_lt (version_of p j) (version_of b 0)
 
 -- one of the first n data blocks leads
 unfoldable pub any_lead : View → List ℕ → ℕ → Bool
@@ -29,8 +28,8 @@ any_lead V p (suc n) = leads_at (V (Data n)) p n || any_lead V p n
 
 -- parity is unfit, or behind: a data block leads it
 abbrev pub parity_bad : Verdict → View → ℕ → Bool
-parity_bad (Unfit c) V n = true
-parity_bad (Readable p) V n = any_lead V p n
+parity_bad (Err c) V n = true
+parity_bad (Ok p) V n = any_lead V p n
 
 -- the block is blind, broken, foreign or behind
 abbrev pub bad_role : ℕ → View → Role → Bool

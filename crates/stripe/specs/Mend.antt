@@ -1,25 +1,24 @@
 -- What a block is to be, from the others.
-use Rattle.std.specs.Prelude.{ℕ, zero, suc, cond, List, ◌==◌, bit_xor, nat_lt, slice_index}
+use Rattle.std.specs.Prelude.{ℕ, zero, suc, cond, List, ◌==◌, bit_xor, nat_lt, slice_index, Ok, Err}
 use Rattle.block.specs.declared.shapes.Role.{Role}
 use Rattle.block.specs.declared.shapes.Role.TheVariants.{Parity, Data}
-use Rattle.block.specs.declared.shapes.Verdict.{Verdict}
-use Rattle.block.specs.declared.shapes.Verdict.TheVariants.{Unfit, Readable}
+use Rattle.block.specs.Shapes.{Verdict}
 use Rattle.block.specs.Judging.{Setup, block_with}
 use Rattle.block.specs.Layout.{table, owner_of, version_of}
 use Rattle.stripe.specs.View.{View}
 
 -- byte i, the owner and version k of a block; 0 where it is unfit
 abbrev pub byte_in : Verdict → ℕ → ℕ
-byte_in (Unfit c) i = 0
-byte_in (Readable b) i = slice_index b i
+byte_in (Err c) i = 0
+byte_in (Ok b) i = slice_index b i
 
 abbrev pub owner_in : Verdict → ℕ
-owner_in (Unfit c) = 0
-owner_in (Readable b) = owner_of b
+owner_in (Err c) = 0
+owner_in (Ok b) = owner_of b
 
 abbrev pub version_in : Verdict → ℕ → ℕ
-version_in (Unfit c) k = 0
-version_in (Readable b) k = version_of b k
+version_in (Err c) k = 0
+version_in (Ok b) k = version_of b k
 
 -- the XOR of f 0 .. f (n - 1)
 unfoldable pub xors : ℕ → (ℕ → ℕ) → ℕ

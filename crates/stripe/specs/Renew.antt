@@ -1,7 +1,7 @@
 -- What a write makes of a stripe: the new data block and the new parity block.
 use Rattle.std.specs.Prelude.{ℕ, Bool, cond, ◌||◌, List, ◌==◌, bit_xor, nat_lt, slice_index}
 use Rattle.block.specs.declared.shapes.Role.TheVariants.{Parity, Data}
-use Rattle.block.specs.declared.shapes.Verdict.{Verdict}
+use Rattle.block.specs.Shapes.{Verdict}
 use Rattle.block.specs.Judging.{Setup, block_with}
 use Rattle.block.specs.Layout.{table}
 use Rattle.stripe.specs.declared.shapes.Decision.{Decision}

@@ -1,12 +1,9 @@
 -- What is seen of a stripe.
-use Rattle.std.specs.Prelude.{ℕ, Bool, true, false, cond, List, replicate, nat_lt, slice_index_or}
-use Rattle.block.specs.declared.shapes.Cell.{Cell}
-use Rattle.block.specs.declared.shapes.Cell.TheVariants.{Nothing}
+use Rattle.std.specs.Prelude.{ℕ, Bool, true, false, cond, List, replicate, nat_lt, slice_index_or, None, Err}
+use Rattle.block.specs.Shapes.{Cell, Verdict}
 use Rattle.block.specs.declared.shapes.Defect.TheVariants.{Blind}
 use Rattle.block.specs.declared.shapes.Role.{Role}
 use Rattle.block.specs.declared.shapes.Role.TheVariants.{Parity, Data}
-use Rattle.block.specs.declared.shapes.Verdict.{Verdict}
-use Rattle.block.specs.declared.shapes.Verdict.TheVariants.{Unfit}
 use Rattle.block.specs.Judging.{Setup, alone}
 use Rattle.block.specs.Layout.{table}
 use Rattle.block.specs.Places.{slot_of}
@@ -34,7 +31,7 @@ takes_at (Filling n) s = nat_lt s n
 
 -- what is seen of a place; a place that its slot's state hides counts as blind
 abbrev pub seen_at : Cell → SlotState → ℕ → Cell
-seen_at x t s = cond (takes_at t s) x Nothing
+seen_at x t s = cond (takes_at t s) x None
 
 -- the blocks of a stripe by role, each judged alone
 abbrev pub View : Type 0
@@ -48,7 +45,7 @@ has_role d (Data j) = nat_lt j d
 -- a block that the stripe has not counts as blind
 unfoldable pub view_of : Setup → Content → Slots → ℕ → View
 view_of E k σ s r =
-    cond (has_role E.D r) (alone E s r (seen_at (k (slot_of E.D s r) s) (σ (slot_of E.D s r)) s)) (Unfit Blind)
+    cond (has_role E.D r) (alone E s r (seen_at (k (slot_of E.D s r) s) (σ (slot_of E.D s r)) s)) (Err Blind)
 
 unfoldable pub row_of : View → List Verdict
 row_of V = table 7 (λ j. V (Data j))
@@ -59,9 +56,9 @@ stripe_of V = record { parity = V Parity; «data» = row_of V }
 
 -- a stripe of which nothing is seen
 abbrev pub unseen_stripe : Stripe
-unseen_stripe = record { parity = Unfit Blind; «data» = replicate 7 (Unfit Blind) }
+unseen_stripe = record { parity = Err Blind; «data» = replicate 7 (Err Blind) }
 
 -- the view of the stripe that code holds
 abbrev pub as_view : Verdict → List Verdict → View
 as_view q vs Parity = q
-as_view q vs (Data j) = slice_index_or vs j (Unfit Blind)
+as_view q vs (Data j) = slice_index_or vs j (Err Blind)

@@ -44,7 +44,7 @@ fn seen<R: ReadableShelf>(shelf: &R, state: SlotState, slot: u32, s: u32) -> Cel
     if takes(state, s) {
         fetch(shelf, slot, s)
     } else {
-        Cell::Nothing
+        None
     }
 }
 
@@ -60,7 +60,7 @@ fn judge_into<R: ReadableShelf, C: Checksum>(
     requires cards { R.cards shelf.now ≡ frame.width + 1 }
     requires within { s < R.blocks shelf.now }
     requires placed { (j : ℕ) → role ≡ Role.Data j → j < frame.width }
-    ensures { out.new ≡ view_of (setup frame C.marked C.meaning) (R.holds shelf.now) (slots_in states.now) s role }
+    ensures { out.new ≡ view_of (setup frame C.MARK C.meaning) (R.holds shelf.now) (slots_in states.now) s role }
 {
     let slot = slot_of(frame, s, role);
     let cell = seen(shelf, states[slot as usize], slot, s);
@@ -78,9 +78,9 @@ pub fn judge_place<R: ReadableShelf, C: Checksum>(
     requires cards { R.cards shelf.now ≡ frame.width + 1 }
     requires within { s < R.blocks shelf.now }
     requires placed { (j : ℕ) → role ≡ Role.Data j → j < frame.width }
-    ensures { result ≡ view_of (setup frame C.marked C.meaning) (R.holds shelf.now) (slots_in states.now) s role }
+    ensures { result ≡ view_of (setup frame C.MARK C.meaning) (R.holds shelf.now) (slots_in states.now) s role }
 {
-    let mut verdict = Verdict::Unfit(Defect::Blind);
+    let mut verdict = Err(Defect::Blind);
     judge_into::<R, C>(shelf, frame, states, s, role, &mut verdict);
     verdict
 }
@@ -96,12 +96,12 @@ fn judge_data<R: ReadableShelf, C: Checksum>(
 )
     requires cards { R.cards shelf.now ≡ frame.width + 1 }
     requires within { s < R.blocks shelf.now }
-    ensures { out.new ≡ view_of (setup frame C.marked C.meaning) (R.holds shelf.now) (slots_in states.now) s (Role.Data j) }
+    ensures { out.new ≡ view_of (setup frame C.MARK C.meaning) (R.holds shelf.now) (slots_in states.now) s (Role.Data j) }
 {
     if j < frame.width {
         judge_into::<R, C>(shelf, frame, states, s, Role::Data(j), out);
     } else {
-        *out = Verdict::Unfit(Defect::Blind);
+        *out = Err(Defect::Blind);
     }
 }
 
@@ -115,7 +115,7 @@ fn look_data<R: ReadableShelf, C: Checksum>(
 )
     requires cards { R.cards shelf.now ≡ frame.width + 1 }
     requires within { s < R.blocks shelf.now }
-    ensures { «data».new ≡ row_of (view_of (setup frame C.marked C.meaning) (R.holds shelf.now) (slots_in states.now) s) }
+    ensures { «data».new ≡ row_of (view_of (setup frame C.MARK C.meaning) (R.holds shelf.now) (slots_in states.now) s) }
 {
     for j in 0..7u32 {
         judge_data::<R, C>(shelf, frame, states, s, j, &mut data[j as usize]);
@@ -132,7 +132,7 @@ pub fn look_into<R: ReadableShelf, C: Checksum>(
 )
     requires cards { R.cards shelf.now ≡ frame.width + 1 }
     requires within { s < R.blocks shelf.now }
-    ensures { stripe.new ≡ stripe_of (view_of (setup frame C.marked C.meaning) (R.holds shelf.now) (slots_in states.now) s) }
+    ensures { stripe.new ≡ stripe_of (view_of (setup frame C.MARK C.meaning) (R.holds shelf.now) (slots_in states.now) s) }
 {
     look_data::<R, C>(shelf, frame, states, s, &mut stripe.data);
     judge_into::<R, C>(shelf, frame, states, s, Role::Parity, &mut stripe.parity);
@@ -143,8 +143,8 @@ pub fn unseen() -> Stripe
     ensures { result ≡ unseen_stripe }
 {
     Stripe {
-        parity: Verdict::Unfit(Defect::Blind),
-        data: [Verdict::Unfit(Defect::Blind); 7],
+        parity: Err(Defect::Blind),
+        data: [Err(Defect::Blind); 7],
     }
 }
 
@@ -157,7 +157,7 @@ pub fn look<R: ReadableShelf, C: Checksum>(
 ) -> Stripe
     requires cards { R.cards shelf.now ≡ frame.width + 1 }
     requires within { s < R.blocks shelf.now }
-    ensures { result ≡ stripe_of (view_of (setup frame C.marked C.meaning) (R.holds shelf.now) (slots_in states.now) s) }
+    ensures { result ≡ stripe_of (view_of (setup frame C.MARK C.meaning) (R.holds shelf.now) (slots_in states.now) s) }
 {
     let mut stripe = unseen();
     look_into::<R, C>(shelf, frame, states, s, &mut stripe);

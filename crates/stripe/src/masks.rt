@@ -32,10 +32,10 @@ fn lags(block: &Verdict, parity: &Verdict, j: u32) -> bool
     ensures { result ≡ lags_at block.now parity.now j }
 {
     match block {
-        Verdict::Unfit(_) => true,
-        Verdict::Readable(b) => match parity {
-            Verdict::Unfit(_) => false,
-            Verdict::Readable(p) => is_behind(version(b, 0), version(p, j)),
+        Err(_) => true,
+        Ok(b) => match parity {
+            Err(_) => false,
+            Ok(p) => is_behind(version(b, 0), version(p, j)),
         },
     }
 }
@@ -45,8 +45,8 @@ fn leads(block: &Verdict, p: &[u8; 128], j: u32) -> bool
     ensures { result ≡ leads_at block.now p.now j }
 {
     match block {
-        Verdict::Unfit(_) => false,
-        Verdict::Readable(b) => is_ahead(version(b, 0), version(p, j)),
+        Err(_) => false,
+        Ok(b) => is_ahead(version(b, 0), version(p, j)),
     }
 }
 
@@ -66,8 +66,8 @@ fn parity_bad(parity: &Verdict, data: &[Verdict; 7], width: u32) -> bool
     ensures { result ≡ parity_bad parity.now (as_view parity.now «data».now) width }
 {
     match parity {
-        Verdict::Unfit(_) => true,
-        Verdict::Readable(p) => any_lead(parity, p, data, width),
+        Err(_) => true,
+        Ok(p) => any_lead(parity, p, data, width),
     }
 }
 

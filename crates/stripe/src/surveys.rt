@@ -14,7 +14,7 @@ use shelf::ReadableShelf;
 fn mask_at<R: ReadableShelf, C: Checksum>(shelf: &R, frame: Frame, s: u32) -> u8
     requires cards { R.cards shelf.now ≡ frame.width + 1 }
     requires within { s < R.blocks shelf.now }
-    ensures { result ≡ mask_at (setup frame C.marked C.meaning) (R.holds shelf.now) s }
+    ensures { result ≡ mask_at (setup frame C.MARK C.meaning) (R.holds shelf.now) s }
 {
     let states = [SlotState::In; 8];
     let stripe = look::<R, C>(shelf, frame, &states, s);
@@ -26,7 +26,7 @@ fn write_masks<R: ReadableShelf, C: Checksum>(shelf: &R, frame: Frame, masks: &m
     requires cards { frame.width + 1 ≡ R.cards shelf.now }
     requires blocks { frame.blocks ≡ R.blocks shelf.now }
     requires long { length masks.old ≡ frame.blocks }
-    ensures { masks.new ≡ stripe_masks (setup_on (R.cards shelf.now) (R.blocks shelf.now) frame.tag C.marked C.meaning) (R.holds shelf.now) }
+    ensures { masks.new ≡ stripe_masks (setup_on (R.cards shelf.now) (R.blocks shelf.now) frame.tag C.MARK C.meaning) (R.holds shelf.now) }
 {
     for s in 0..frame.blocks {
         masks[s as usize] = mask_at::<R, C>(shelf, frame, s);
@@ -40,8 +40,8 @@ pub fn survey<R: ReadableShelf, C: Checksum>(
     tag: u32,
     masks: &mut [u8],
 ) -> Result<(), Refusal>
-    ensures answer { result ≡ survey_answer tt (setup_on (R.cards shelf.now) (R.blocks shelf.now) tag C.marked C.meaning) (length masks.old) }
-    ensures written { masks.new ≡ survey_masks (setup_on (R.cards shelf.now) (R.blocks shelf.now) tag C.marked C.meaning) (R.holds shelf.now) masks.old }
+    ensures answer { result ≡ survey_answer tt (setup_on (R.cards shelf.now) (R.blocks shelf.now) tag C.MARK C.meaning) (length masks.old) }
+    ensures written { masks.new ≡ survey_masks (setup_on (R.cards shelf.now) (R.blocks shelf.now) tag C.MARK C.meaning) (R.holds shelf.now) masks.old }
 {
     if masks.len() != shelf.block_count() as usize {
         return Err(Refusal::Length);

@@ -1,10 +1,10 @@
 -- The worked cases of a stripe on three cards. Assumes nothing.
+use Rattle.std.specs.Prelude.{Ok, Err}
 use Rattle.std.proofs.Common.{◌≡◌, ℕ, Bool, false, cond, ◌||◌, eqb, ltb, List, [], ◌∷◌, replicate, refl, ap, ◌∙◌, ap₂}
 use Rattle.block.specs.declared.shapes.Defect.TheVariants.{Broken, Foreign}
 use Rattle.block.specs.declared.shapes.Role.{Role}
 use Rattle.block.specs.declared.shapes.Role.TheVariants.{Parity, Data}
-use Rattle.block.specs.declared.shapes.Verdict.{Verdict}
-use Rattle.block.specs.declared.shapes.Verdict.TheVariants.{Unfit, Readable}
+use Rattle.block.specs.Shapes.{Verdict}
 use Rattle.block.specs.Judging.{Setup, broken_by, marks_fit, native_block, judged}
 use Rattle.block.specs.Places.{role_at}
 use Rattle.checksum.specs.Fletcher.{fletcher}
@@ -29,9 +29,9 @@ zero_native : (E : Setup) (s : ℕ) (r : Role) → native_block E s r (replicate
 unfolding native_block
 zero_native E s r = simp (zero_marks E.D E.mark s r)
 
-pub zero_block : (E : Setup) (s : ℕ) (r : Role) → E.sum ≡ fletcher → judged E s r (replicate 128 0) ≡ Unfit Foreign
+pub zero_block : (E : Setup) (s : ℕ) (r : Role) → E.sum ≡ fletcher → judged E s r (replicate 128 0) ≡ Err Foreign
 zero_block E s r e =
-    ap₂ (λ (b n : Bool). cond b (Unfit Broken) (cond n (Readable (replicate 128 0)) (Unfit Foreign)))
+    ap₂ (λ (b n : Bool). cond b (Err Broken) (cond n (Ok (replicate 128 0)) (Err Foreign)))
     (ap (λ h. broken_by h (replicate 128 0)) e ∙ zero_whole) (zero_native E s r)
 
 module _ (V : View) (x y p : List ℕ) (a b : ℕ) (M : Mirrored V x y p a b) where
@@ -78,11 +78,11 @@ module _ (V : View) (x y p : List ℕ) (a b : ℕ) (M : Mirrored V x y p a b) wh
     found j q bad v =
         cond q (gathered_quick v) (record { obtained = cond bad (as_rebuilt (patch_of E 0 V)) (as_found v); looks = 3; patch = patch_of E 0 V })
 
-    pub first_is : gathered E 0 V 0 ≡ found 0 (eqb a 2) (ltb a 2) (Readable x)
+    pub first_is : gathered E 0 V 0 ≡ found 0 (eqb a 2) (ltb a 2) (Ok x)
     unfolding gathered gathered_all
     first_is = ap₂ (λ q bad. found 0 q bad (V (Data 0))) first_quick first_bad ∙ ap (found 0 (eqb a 2) (ltb a 2)) M.first
 
-    pub second_is : gathered E 0 V 1 ≡ found 1 (eqb b 1) (ltb b 1) (Readable y)
+    pub second_is : gathered E 0 V 1 ≡ found 1 (eqb b 1) (ltb b 1) (Ok y)
     unfolding gathered gathered_all
     second_is = ap₂ (λ q bad. found 1 q bad (V (Data 1))) second_quick second_bad ∙ ap (found 1 (eqb b 1) (ltb b 1)) M.second
 

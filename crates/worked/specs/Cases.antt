@@ -4,7 +4,6 @@ use Rattle.block.specs.declared.refusal.Refusal.TheVariants.{Address}
 use Rattle.block.specs.declared.shapes.Defect.TheVariants.{Foreign}
 use Rattle.block.specs.declared.shapes.Role.{Role}
 use Rattle.block.specs.declared.shapes.Role.TheVariants.{Parity, Data}
-use Rattle.block.specs.declared.shapes.Verdict.TheVariants.{Unfit, Readable}
 use Rattle.block.specs.Judging.{Setup, judged}
 use Rattle.block.specs.Layout.{version_of}
 use Rattle.block.specs.Places.{place_of}
@@ -22,9 +21,9 @@ three_cards S tag mark sum = record { D = 2; S = S; tag = tag; mark = mark; sum 
 
 -- three readable blocks: data x and y with versions a and b, and a parity block that mirrors versions 2 and 1
 pub record Mirrored (V : View) (x y p : List ℕ) (a b : ℕ) : Type 0 where
-  pub first : V (Data 0) ≡ Readable x
-  pub second : V (Data 1) ≡ Readable y
-  pub parity : V Parity ≡ Readable p
+  pub first : V (Data 0) ≡ Ok x
+  pub second : V (Data 1) ≡ Ok y
+  pub parity : V Parity ≡ Ok p
   pub of_first : version_of x 0 ≡ a
   pub of_second : version_of y 0 ≡ b
   pub mirrors_first : version_of p 0 ≡ 2
@@ -38,7 +37,7 @@ pub record WorkedCases : Type 0 where
   -- checksums of rows that are 0 but for one byte
   pub sums : WorkedSums
   -- a block of zeros under Fletcher's sum is foreign, wherever it lies
-  pub zero_block : (E : Setup) (s : ℕ) (r : Role) → E.sum ≡ fletcher → judged E s r (replicate 128 0) ≡ Unfit Foreign
+  pub zero_block : (E : Setup) (s : ℕ) (r : Role) → E.sum ≡ fletcher → judged E s r (replicate 128 0) ≡ Err Foreign
   -- stripe 0 of three cards, with mirrored versions 2 and 1, by the versions of the data
   pub mask_2_1 : (V : View) (x y p : List ℕ) → Mirrored V x y p 2 1 → mask_number 2 0 V ≡ 0
   pub mask_1_1 : (V : View) (x y p : List ℕ) → Mirrored V x y p 1 1 → mask_number 2 0 V ≡ 1

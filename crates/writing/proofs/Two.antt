@@ -1,7 +1,7 @@
 -- New blocks made from old parity and the old block depend on these two alone. Assumes nothing.
 use Rattle.std.proofs.Common.{◌≡◌, ℕ, false, List, ap₂}
 use Rattle.block.specs.declared.shapes.Role.TheVariants.{Parity, Data}
-use Rattle.block.specs.declared.shapes.Verdict.{Verdict}
+use Rattle.block.specs.Shapes.{Verdict}
 use Rattle.block.specs.Judging.{Setup}
 use Rattle.stripe.specs.declared.shapes.Plan.TheVariants.{BySum}
 use Rattle.stripe.specs.Renew.{summed_row, new_versions, new_parity}

@@ -20,10 +20,10 @@ fn is_quick(block: &Verdict, parity: &Verdict, j: u32) -> bool
     ensures { result ≡ quick block.now parity.now j }
 {
     match block {
-        Verdict::Unfit(_) => false,
-        Verdict::Readable(b) => match parity {
-            Verdict::Unfit(_) => false,
-            Verdict::Readable(p) => version(b, 0) == version(p, j),
+        Err(_) => false,
+        Ok(b) => match parity {
+            Err(_) => false,
+            Ok(p) => version(b, 0) == version(p, j),
         },
     }
 }
@@ -42,7 +42,7 @@ fn pair_at<C: Checksum>(
     owner: u32,
 ) -> Result<Pair, Refusal>
     requires { j < frame.width }
-    ensures { result ≡ pair_at base (setup frame C.marked C.meaning) s (as_view parity.now «data».now) j plan bad payload.now owner }
+    ensures { result ≡ pair_at base (setup frame C.MARK C.meaning) s (as_view parity.now «data».now) j plan bad payload.now owner }
 {
     if base < 4294967295 {
         let next = base + 1;
@@ -70,7 +70,7 @@ fn pair_of<C: Checksum>(
     owner: u32,
 ) -> Result<Pair, Refusal>
     requires { j < frame.width }
-    ensures { result ≡ pair_of plan bad (setup frame C.marked C.meaning) s (as_view parity.now «data».now) j payload.now owner }
+    ensures { result ≡ pair_of plan bad (setup frame C.MARK C.meaning) s (as_view parity.now «data».now) j payload.now owner }
 {
     let base = base_version(parity, data, frame, j);
     match plan {
@@ -113,9 +113,9 @@ fn prepare_quick<C: Checksum>(
     owner: u32,
 ) -> Prepared
     requires { j < frame.width }
-    ensures { (V : View) → block ≡ V (Role.Data j) → parity.now ≡ V Role.Parity → result ≡ prepared_by true (setup frame C.marked C.meaning) s V j payload.now owner }
+    ensures { (V : View) → block ≡ V (Role.Data j) → parity.now ≡ V Role.Parity → result ≡ prepared_by true (setup frame C.MARK C.meaning) s V j payload.now owner }
 {
-    let mut data = [Verdict::Unfit(Defect::Blind); 7];
+    let mut data = [Err(Defect::Blind); 7];
     data[j as usize] = block;
     let pair = pair_of::<C>(
         Plan::BySum,
@@ -142,7 +142,7 @@ fn prepare_full<C: Checksum>(
     owner: u32,
 ) -> Prepared
     requires { j < frame.width }
-    ensures { result ≡ prepared_by false (setup frame C.marked C.meaning) s (as_view parity.now «data».now) j payload.now owner }
+    ensures { result ≡ prepared_by false (setup frame C.MARK C.meaning) s (as_view parity.now «data».now) j payload.now owner }
 {
     let plan = plan_of(parity, data, frame, s, j);
     let bad = bad_role(parity, data, frame, Role::Parity);
@@ -162,7 +162,7 @@ fn look_all<R: ReadableShelf, C: Checksum>(
 ) -> Stripe
     requires cards { R.cards shelf.now ≡ frame.width + 1 }
     requires within { s < R.blocks shelf.now }
-    ensures { as_view result.parity result.«data» ≡ view_of (setup frame C.marked C.meaning) (R.holds shelf.now) (slots_in states.now) s }
+    ensures { as_view result.parity result.«data» ≡ view_of (setup frame C.MARK C.meaning) (R.holds shelf.now) (slots_in states.now) s }
 {
     look::<R, C>(shelf, frame, states, s)
 }
@@ -181,7 +181,7 @@ fn prepare_all<R: ReadableShelf, C: Checksum>(
     requires cards { R.cards shelf.now ≡ frame.width + 1 }
     requires within { s < R.blocks shelf.now }
     requires placed { j < frame.width }
-    ensures { ReadyBy Way.Additive (setup frame C.marked C.meaning) (R.holds shelf.now) (slots_in states.now) s j payload.now owner result findings.new }
+    ensures { ReadyBy Way.Additive (setup frame C.MARK C.meaning) (R.holds shelf.now) (slots_in states.now) s j payload.now owner result findings.new }
 {
     let stripe = look_all::<R, C>(shelf, frame, states, s);
     findings_all(&stripe.parity, &stripe.data, frame, s, None, findings);
@@ -202,7 +202,7 @@ fn prepare_two<R: ReadableShelf, C: Checksum>(
     requires cards { R.cards shelf.now ≡ frame.width + 1 }
     requires within { s < R.blocks shelf.now }
     requires placed { j < frame.width }
-    ensures { ReadyBy Way.Subtractive (setup frame C.marked C.meaning) (R.holds shelf.now) (slots_in states.now) s j payload.now owner result findings.new }
+    ensures { ReadyBy Way.Subtractive (setup frame C.MARK C.meaning) (R.holds shelf.now) (slots_in states.now) s j payload.now owner result findings.new }
 {
     let block = judge_place::<R, C>(shelf, frame, states, s, Role::Data(j));
     let parity = judge_place::<R, C>(shelf, frame, states, s, Role::Parity);
@@ -229,7 +229,7 @@ pub fn prepare<R: ReadableShelf, C: Checksum>(
     requires cards { R.cards shelf.now ≡ frame.width + 1 }
     requires within { s < R.blocks shelf.now }
     requires placed { j < frame.width }
-    ensures { ReadyBy way (setup frame C.marked C.meaning) (R.holds shelf.now) (slots_in states.now) s j payload.now owner result findings.new }
+    ensures { ReadyBy way (setup frame C.MARK C.meaning) (R.holds shelf.now) (slots_in states.now) s j payload.now owner result findings.new }
 {
     match way {
         Way::Subtractive => prepare_two::<R, C>(

@@ -118,7 +118,7 @@ fn write_at<W: WritableShelf, C: Checksum>(
     requires cards { W.cards shelf.old ≡ frame.width + 1 }
     requires within { s < W.blocks shelf.old }
     requires placed { j < frame.width }
-    ensures did { WriteDone (write_at (setup frame C.marked C.meaning) (W.holds shelf.old) (slots_in states.now) s j payload.now owner way) (W.conduct shelf.old) (W.conduct shelf.new) result findings.new }
+    ensures did { WriteDone (write_at (setup frame C.MARK C.meaning) (W.holds shelf.old) (slots_in states.now) s j payload.now owner way) (W.conduct shelf.old) (W.conduct shelf.new) result findings.new }
     ensures cards { W.cards shelf.new ≡ W.cards shelf.old }
     ensures blocks { W.blocks shelf.new ≡ W.blocks shelf.old }
 {
@@ -139,7 +139,7 @@ fn write_from<W: WritableShelf, C: Checksum>(
 ) -> Result<WriteAnswer, Refusal>
     requires cards { W.cards shelf.old ≡ frame.width + 1 }
     requires within { Within frame.width (W.blocks shelf.old) position }
-    ensures did { WriteDone (write_from (setup frame C.marked C.meaning) (W.holds shelf.old) (slots_in states.now) payload.now owner way findings.old position) (W.conduct shelf.old) (W.conduct shelf.new) result findings.new }
+    ensures did { WriteDone (write_from (setup frame C.MARK C.meaning) (W.holds shelf.old) (slots_in states.now) payload.now owner way findings.old position) (W.conduct shelf.old) (W.conduct shelf.new) result findings.new }
     ensures cards { W.cards shelf.new ≡ W.cards shelf.old }
     ensures blocks { W.blocks shelf.new ≡ W.blocks shelf.old }
 {
@@ -170,7 +170,7 @@ pub fn write_call<W: WritableShelf, C: Checksum>(
 ) -> Result<WriteAnswer, Refusal>
     requires cards { W.cards shelf.old ≡ frame.width + 1 }
     requires blocks { W.blocks shelf.old ≡ frame.blocks }
-    ensures did { WriteDone (write_call (setup frame C.marked C.meaning) (W.holds shelf.old) (slots_in states.now) address payload.now owner way findings.old) (W.conduct shelf.old) (W.conduct shelf.new) result findings.new }
+    ensures did { WriteDone (write_call (setup frame C.MARK C.meaning) (W.holds shelf.old) (slots_in states.now) address payload.now owner way findings.old) (W.conduct shelf.old) (W.conduct shelf.new) result findings.new }
     ensures cards { W.cards shelf.new ≡ W.cards shelf.old }
     ensures blocks { W.blocks shelf.new ≡ W.blocks shelf.old }
 {

@@ -18,7 +18,7 @@ write_place-requires g c = record {
 pub loop-block-preserved : goal.loop-block-preserved
 loop-block-preserved g c =
     let k = g.W.WritableShelf.conduct in
-    let E : Setup = setup c.args.frame g.C.Checksum.marked g.C.Checksum.meaning in
+    let E : Setup = setup c.args.frame g.C.Checksum.MARK g.C.Checksum.meaning in
     let e = c.write_place.ensures in (
       after_more (k c.args.shelf.now) _ _ (card_writes E c.args.slot c.loop-block.block) _ c.loop-block.invariant.0 e.wrote
           ∙ ap (after_all (k c.args.shelf.now)) (sym (card_more E c.args.slot c.loop-block.block)),
@@ -29,7 +29,7 @@ loop-block-preserved g c =
 pub returns : goal.returns
 returns g c =
     let k = g.W.WritableShelf.conduct in
-    let E : Setup = setup c.args.frame g.C.Checksum.marked g.C.Checksum.meaning in
+    let E : Setup = setup c.args.frame g.C.Checksum.MARK g.C.Checksum.meaning in
     let whole : c.loop-block.block ≡ c.args.frame.blocks = omega arith in
     record {
       wrote = c.loop-block.invariant.0 ∙ ap (λ n. after_all (k c.args.shelf.now) (card_writes E c.args.slot n)) whole;

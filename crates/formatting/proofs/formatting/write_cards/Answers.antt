@@ -18,7 +18,7 @@ write_card-requires g c = record {
 pub loop-slot-preserved : goal.loop-slot-preserved
 loop-slot-preserved g c =
     let k = g.W.WritableShelf.conduct in
-    let E : Setup = setup c.args.frame g.C.Checksum.marked g.C.Checksum.meaning in
+    let E : Setup = setup c.args.frame g.C.Checksum.MARK g.C.Checksum.meaning in
     let e = c.write_card.ensures in (
       after_more (k c.args.shelf.now) _ _ (format_slots E c.loop-slot.slot) _ c.loop-slot.invariant.0 e.wrote
           ∙ ap (after_all (k c.args.shelf.now)) (sym (format_more E c.loop-slot.slot)),
@@ -29,7 +29,7 @@ loop-slot-preserved g c =
 pub returns : goal.returns
 returns g c =
     let k = g.W.WritableShelf.conduct in
-    let E : Setup = setup c.args.frame g.C.Checksum.marked g.C.Checksum.meaning in
+    let E : Setup = setup c.args.frame g.C.Checksum.MARK g.C.Checksum.meaning in
     let whole : c.loop-slot.slot ≡ c.args.frame.width + 1 = omega arith in
     record {
       wrote = c.loop-slot.invariant.0 ∙ ap (λ n. after_all (k c.args.shelf.now) (format_slots E n)) whole;

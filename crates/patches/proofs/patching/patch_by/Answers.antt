@@ -7,7 +7,7 @@ use Rattle.patches.proofs.patching.patch_by.Goals as goal
 
 pub returns-in-Only : goal.returns-in-Only
 returns-in-Only g c =
-    let E = setup c.args.frame g.C.Checksum.marked g.C.Checksum.meaning in
+    let E = setup c.args.frame g.C.Checksum.MARK g.C.Checksum.meaning in
     let V = as_view c.args.parity.now c.args.«data».now in
     let made : ℕ → List ℕ → Option Patch = λ x b. Some (record { slot = x; bytes = b }) in
     record {

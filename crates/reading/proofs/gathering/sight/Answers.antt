@@ -21,7 +21,7 @@ returns-then-quick g c =
 pub returns-else-quick : goal.returns-else-quick
 unfolding sighted
 returns-else-quick g c =
-    let E = setup c.args.frame g.C.Checksum.marked g.C.Checksum.meaning in
+    let E = setup c.args.frame g.C.Checksum.MARK g.C.Checksum.meaning in
     let both = ap₂ (λ a b. quick a b c.args.j) c.sight_data-block.ensures c.judge_place-parity.ensures in
     record {
       below = c.sight_all.ensures.below;

@@ -11,7 +11,7 @@ use Rattle.scrubbing.proofs.refilling.stripe_patch.Goals as goal
 pub returns : goal.returns
 unfolding rebuild_writes
 returns g c =
-    let E = setup c.args.frame g.C.Checksum.marked g.C.Checksum.meaning in
+    let E = setup c.args.frame g.C.Checksum.MARK g.C.Checksum.meaning in
     let s = c.args.s in
     let met = g.met.W.WritableShelf in
     let now = c.args.shelf.now in

@@ -13,7 +13,7 @@ use Rattle.scrubbing.proofs.sweeping.sweep_one.Goals as goal
 pub returns : goal.returns
 unfolding swept_of sweep_writes sweep_findings patch_of
 returns g c =
-    let E = setup c.args.frame g.C.Checksum.marked g.C.Checksum.meaning in
+    let E = setup c.args.frame g.C.Checksum.MARK g.C.Checksum.meaning in
     let σ = slots_in c.args.states.now in
     let s = c.args.s in
     let met = g.met.W.WritableShelf in

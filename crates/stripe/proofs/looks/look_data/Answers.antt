@@ -1,6 +1,6 @@
+use Rattle.std.specs.Prelude.{Err}
 use Rattle.std.proofs.Common.{arith}
 use Rattle.block.specs.declared.shapes.Defect.TheVariants.{Blind}
-use Rattle.block.specs.declared.shapes.Verdict.TheVariants.{Unfit}
 use Rattle.stripe.specs.View.{row_of}
 use Rattle.stripe.proofs.Rows.{filled_none, filled_more, filled_all}
 use Rattle.stripe.proofs.looks.look_data.Goals as goal
@@ -13,4 +13,4 @@ loop-j-preserved g c = filled_more 7 _ c.loop-j.j _ _ (omega arith) c.loop-j.inv
 
 pub returns : goal.returns
 unfolding row_of
-returns g c = filled_all 7 _ c.loop-j.j _ (Unfit Blind) (omega arith) c.loop-j.invariant
+returns g c = filled_all 7 _ c.loop-j.j _ (Err Blind) (omega arith) c.loop-j.invariant

@@ -6,4 +6,4 @@ use Rattle.stripe.proofs.looks.look_data.Given as goal
 
 abbrev pub invariant-loop-j : goal.invariant-loop-j
 invariant-loop-j g l =
-    Filled 7 (λ j. view_of (setup l.frame g.C.Checksum.marked g.C.Checksum.meaning) (g.R.ReadableShelf.holds l.shelf) (slots_in l.states) l.s (Data j)) l.j l.«data»
+    Filled 7 (λ j. view_of (setup l.frame g.C.Checksum.MARK g.C.Checksum.meaning) (g.R.ReadableShelf.holds l.shelf) (slots_in l.states) l.s (Data j)) l.j l.«data»

@@ -8,5 +8,5 @@ use Rattle.writing.proofs.preparing.look_all.Goals as goal
 pub returns : goal.returns
 returns g c =
     ap (λ (x : Stripe). as_view x.parity x.«data») c.look.ensures
-    ∙ as_view_lem (setup c.args.frame g.C.Checksum.marked g.C.Checksum.meaning) (g.R.ReadableShelf.holds c.args.shelf.now)
+    ∙ as_view_lem (setup c.args.frame g.C.Checksum.MARK g.C.Checksum.meaning) (g.R.ReadableShelf.holds c.args.shelf.now)
     (slots_in c.args.states.now) c.args.s c.args.frame.most

@@ -10,7 +10,7 @@ pub returns-then-slot-frame : goal.returns-then-slot-frame
 returns-then-slot-frame g c =
     let s = c.args.self.now in
     let cards = g.W.ReadableShelf.cards s.shelf in
-    let E : Setup = setup_on cards (g.W.ReadableShelf.blocks s.shelf) s.tag g.C.Checksum.marked g.C.Checksum.meaning in
+    let E : Setup = setup_on cards (g.W.ReadableShelf.blocks s.shelf) s.tag g.C.Checksum.MARK g.C.Checksum.meaning in
     let h : cards - 1 < c.args.slot = omega (arith, c.own_frame-frame.ensures.width) in
     let off = off_place E (slots_in s.states) c.args.slot c.args.event h in
     record {
@@ -27,7 +27,7 @@ returns g c =
     let s = c.args.self.now in
     let f = c.own_frame-frame.result in
     let cards = g.W.ReadableShelf.cards s.shelf in
-    let E : Setup = setup_on cards (g.W.ReadableShelf.blocks s.shelf) s.tag g.C.Checksum.marked g.C.Checksum.meaning in
+    let E : Setup = setup_on cards (g.W.ReadableShelf.blocks s.shelf) s.tag g.C.Checksum.MARK g.C.Checksum.meaning in
     let w : f.width ≡ cards - 1 = omega (arith, c.own_frame-frame.ensures.width) in
     let on = on_place E f.width f.blocks (slots_in s.states) c.args.slot c.args.event w c.own_frame-frame.ensures.blocks (omega arith) in
     record {

@@ -1,13 +1,13 @@
+use Rattle.std.specs.Prelude.{Err}
 use Rattle.std.proofs.Common.{◌≡◌, ℕ, ◌<◌, true, false, List, get_or, set, sym, ◌∙◌, rules}
 use Rattle.std.proofs.lemmas.Simd.{Each1-from_get_or}
 use Rattle.std.proofs.lemmas.Bool.{false≢true}
 use Rattle.checksum.specs.Rows.{Bytes, OneApart, Row}
 use Rattle.block.specs.declared.shapes.Defect.TheVariants.{Broken}
-use Rattle.block.specs.declared.shapes.Verdict.{Verdict}
-use Rattle.block.specs.declared.shapes.Verdict.TheVariants.{Unfit}
+use Rattle.block.specs.Shapes.{Verdict}
 use Rattle.block.specs.Judging.{RightSum, broken_by}
 use Rattle.block.proofs.OneByte.{changed_is_broken}
-use Rattle.block.proofs.judging.judge_block.Goals as goal
+use Rattle.block.proofs.spot.Spot.judge_block.Goals as goal
 
 -- a block that is not broken is no block with one byte changed
 never : (h : List ℕ → ℕ) (b was : List ℕ) (i v : ℕ) → b ≡ set was i v → Bytes b → broken_by h b ≡ false
@@ -20,7 +20,7 @@ bytes_of b fits = Each1-from_get_or (λ x. x < 256) b 0 (λ k h. fits k)
 -- the one_byte promise where the block is not broken
 module _ (h : List ℕ → ℕ) (tells : (xs ys : List ℕ) → Row xs → Row ys → OneApart xs ys → h xs ≡ h ys → ⊥) (b : List ℕ) (bytes : Bytes b)
     (left : broken_by h b ≡ false) where
-  one_byte : (v' : Verdict) (was : List ℕ) (i v : ℕ) → RightSum h was → i < 128 → (get_or was i 0 ≡ v → ⊥) → b ≡ set was i v → v' ≡ Unfit Broken
+  one_byte : (v' : Verdict) (was : List ℕ) (i v : ℕ) → RightSum h was → i < 128 → (get_or was i 0 ≡ v → ⊥) → b ≡ set was i v → v' ≡ Err Broken
   one_byte v' was i v s l ne e = absurd (never h b was i v e bytes left (changed_is_broken h tells was i v s l ne))
 
 pub returns-then-is_native : goal.returns-then-is_native
