@@ -8,7 +8,7 @@ use Rattle.stripe.specs.declared.shapes.SlotState.TheVariants.{In}
 use Rattle.stripe.specs.declared.shapes.Stripe.{Stripe}
 use Rattle.stripe.specs.Judge.{mask_number}
 use Rattle.stripe.specs.Survey.{setup_on, mask_at}
-use Rattle.stripe.specs.View.{slots_in, all_in, view_of, stripe_of, as_view}
+use Rattle.stripe.specs.View.{Slots, slots_in, all_in, view_of, stripe_of, seen_in}
 use Rattle.stripe.proofs.Views.{as_view_lem}
 
 -- the frame of a shelf gives the setup on it
@@ -25,14 +25,13 @@ in_all (suc n) (suc c) = in_all n c
 pub slots_in_lem : (n : ℕ) → slots_in (replicate n In) ≡ all_in
 slots_in_lem n = fun_ext (in_all n)
 
--- the stripe that code holds, with all slots in
-pub held_view : (E : Setup) (k : Content) (n s : ℕ) (t : Stripe) → E.D ≤ 7 → t ≡ stripe_of (view_of E k (slots_in (replicate n In)) s) → as_view t.parity t.«data» ≡ view_of E k all_in s
-held_view E k n s t w e =
-    ap (λ x. as_view x.parity x.«data») e ∙ as_view_lem E k (slots_in (replicate n In)) s w ∙ ap (λ σ. view_of E k σ s) (slots_in_lem n)
+-- the view of the stripe that code holds
+pub held_view : (E : Setup) (k : Content) (σ : Slots) (s : ℕ) (t : Stripe) → E.D ≤ 7 → t ≡ stripe_of (view_of E k σ s) → seen_in t ≡ view_of E k σ s
+held_view E k σ s t w e = ap (λ x. seen_in x) e ∙ as_view_lem E k σ s w
 
--- its mask
-pub mask_held : (E : Setup) (k : Content) (n s : ℕ) (t : Stripe) → E.D ≤ 7 → t ≡ stripe_of (view_of E k (slots_in (replicate n In)) s) → mask_number E.D s (as_view t.parity t.«data») ≡ mask_at E k s
-mask_held E k n s t w e = ap (mask_number E.D s) (held_view E k n s t w e)
+-- its mask with all slots in
+pub mask_held : (E : Setup) (k : Content) (σ : Slots) (s : ℕ) (t : Stripe) → E.D ≤ 7 → σ ≡ all_in → t ≡ stripe_of (view_of E k σ s) → mask_number E.D s (seen_in t) ≡ mask_at E k s
+mask_held E k σ s t w all e = ap (mask_number E.D s) (held_view E k σ s t w e ∙ ap (λ x. view_of E k x s) all)
 
 -- the setup of a frame that is the shelf's, under a tag
 pub setup_under : (f : Frame) (cards blocks tag mark : ℕ) (sum : List ℕ → ℕ) → f.width + 1 ≡ cards → f.blocks ≡ blocks → f.tag ≡ tag

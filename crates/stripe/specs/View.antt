@@ -62,3 +62,6 @@ unseen_stripe = record { parity = Err Blind; «data» = replicate 7 (Err Blind) 
 abbrev pub as_view : Verdict → List Verdict → View
 as_view q vs Parity = q
 as_view q vs (Data j) = slice_index_or vs j (Err Blind)
+
+abbrev pub seen_in : Stripe → View
+seen_in t = as_view t.parity t.«data»

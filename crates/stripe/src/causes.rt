@@ -1,8 +1,21 @@
 // Causes and the layers that show them.
 ghost use Rattle.std.specs.Prelude.{◌≡◌};
-ghost use Rattle.stripe.specs.Findings.{layer_of};
+ghost use Rattle.stripe.specs.Findings.{cause_of, layer_of};
 
 use crate::shapes::{Cause, Layer};
+use block::Defect;
+
+impl From<Defect> for Cause {
+    ghost from_gives = { λ defect cause. cause ≡ cause_of defect };
+
+    fn from(defect: Defect) -> Cause {
+        match defect {
+            Defect::Blind => Cause::Blind,
+            Defect::Broken => Cause::Broken,
+            Defect::Foreign => Cause::Foreign,
+        }
+    }
+}
 
 impl Cause {
     // The layer that shows the cause.

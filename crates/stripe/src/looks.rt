@@ -1,12 +1,13 @@
 // Looking at the places of a stripe.
 ghost use Rattle.std.specs.Prelude.{◌≡◌, ℕ, ◌+◌, ◌<◌, ◌≤◌};
 ghost use Rattle.block.specs.Judging.{setup};
-ghost use Rattle.stripe.specs.View.{slots_in, takes_at, seen_at, view_of, row_of, stripe_of, unseen_stripe};
+ghost use Rattle.stripe.specs.View.{slots_in, all_in, takes_at, seen_at, view_of, row_of, stripe_of, unseen_stripe};
 
+use crate::cards::{CardSet, CardView};
 use crate::shapes::{SlotState, Stripe};
-use block::{Cell, Defect, Frame, Role, Verdict, judge, slot_of};
+use block::{Cell, DataSpot, Defect, Frame, Role, Spot, Verdict};
 use checksum::Checksum;
-use shelf::{ReadableShelf, fetch};
+use shelf::{ReadableShelf, WritableShelf, fetch};
 
 // The frame of an array on a shelf, under a tag.
 pub fn frame_of<R: ReadableShelf>(shelf: &R, tag: u32) -> Frame
@@ -24,6 +25,13 @@ pub fn frame_of<R: ReadableShelf>(shelf: &R, tag: u32) -> Frame
     }
 }
 
+// Eight slots that are in.
+pub fn all_slots_in() -> [SlotState; 8]
+    ensures { slots_in result ≡ all_in }
+{
+    [SlotState::In; 8]
+}
+
 // Whether block s of a slot in such a state is read and written.
 pub fn takes(state: SlotState, s: u32) -> bool
     ensures { result ≡ takes_at state s }
@@ -35,131 +43,125 @@ pub fn takes(state: SlotState, s: u32) -> bool
     }
 }
 
-// What is seen of a place of a slot in such a state; no read is sent to a place that the state hides.
-fn seen<R: ReadableShelf>(shelf: &R, state: SlotState, slot: u32, s: u32) -> Cell
-    requires slot_within { slot < R.cards shelf.now }
-    requires block_within { s < R.blocks shelf.now }
-    ensures { result ≡ seen_at (R.holds shelf.now slot s) state s }
-{
-    if takes(state, s) {
-        fetch(shelf, slot, s)
-    } else {
-        None
+impl<W: WritableShelf> CardSet<W> {
+    // The cards, to be read.
+    pub fn view(&self) -> CardView<'_, W>
+        ensures shelf { result.shelf.now ≡ self.now.shelf }
+        ensures frame { result.frame ≡ self.now.frame }
+        ensures states { result.states.now ≡ self.now.states }
+    {
+        CardView {
+            shelf: &self.shelf,
+            frame: self.frame,
+            states: &self.states,
+        }
     }
 }
 
-// Judges the block of a role of stripe s alone, into a verdict that the caller keeps.
-fn judge_into<R: ReadableShelf, C: Checksum>(
-    shelf: &R,
-    frame: Frame,
-    states: &[SlotState; 8],
-    s: u32,
-    role: Role,
-    out: &mut Verdict,
-)
-    requires cards { R.cards shelf.now ≡ frame.width + 1 }
-    requires within { s < R.blocks shelf.now }
-    requires placed { (j : ℕ) → role ≡ Role.Data j → j < frame.width }
-    ensures { out.new ≡ view_of (setup frame C.MARK C.meaning) (R.holds shelf.now) (slots_in states.now) s role }
-{
-    let slot = slot_of(frame, s, role);
-    let cell = seen(shelf, states[slot as usize], slot, s);
-    *out = judge::<C>(frame, s, role, &cell);
-}
+impl<'a, R: ReadableShelf> CardView<'a, R> {
+    // What is seen of a place; no read is sent to a place that its slot's state hides.
+    fn seen(&self, slot: u32, s: u32) -> Cell
+        requires slot_within { slot ≤ self.now.frame.width }
+        requires block_within { s < R.blocks self.now.shelf.now }
+        ensures { result ≡ seen_at (R.holds self.now.shelf.now slot s) (slots_in self.now.states.now slot) s }
+    {
+        if takes(self.states[slot as usize], s) {
+            fetch(self.shelf, slot, s)
+        } else {
+            None
+        }
+    }
 
-// The block of a role of stripe s, judged alone.
-pub fn judge_place<R: ReadableShelf, C: Checksum>(
-    shelf: &R,
-    frame: Frame,
-    states: &[SlotState; 8],
-    s: u32,
-    role: Role,
-) -> Verdict
-    requires cards { R.cards shelf.now ≡ frame.width + 1 }
-    requires within { s < R.blocks shelf.now }
-    requires placed { (j : ℕ) → role ≡ Role.Data j → j < frame.width }
-    ensures { result ≡ view_of (setup frame C.MARK C.meaning) (R.holds shelf.now) (slots_in states.now) s role }
-{
-    let mut verdict = Err(Defect::Blind);
-    judge_into::<R, C>(shelf, frame, states, s, role, &mut verdict);
-    verdict
-}
+    // Judges a block alone, into a verdict that the caller keeps.
+    fn judge_into<C: Checksum>(&self, spot: Spot, out: &mut Verdict)
+        requires same { spot.frame ≡ self.now.frame }
+        requires within { spot.stripe < R.blocks self.now.shelf.now }
+        ensures { out.new ≡ view_of (setup self.now.frame C.MARK C.meaning) (R.holds self.now.shelf.now) (slots_in self.now.states.now) spot.stripe spot.role }
+    {
+        let cell = self.seen(spot.slot(), spot.stripe);
+        *out = spot.judge::<C>(&cell);
+    }
 
-// Judges the data block of an index alone; an index that the stripe has not counts as blind.
-fn judge_data<R: ReadableShelf, C: Checksum>(
-    shelf: &R,
-    frame: Frame,
-    states: &[SlotState; 8],
-    s: u32,
-    j: u32,
-    out: &mut Verdict,
-)
-    requires cards { R.cards shelf.now ≡ frame.width + 1 }
-    requires within { s < R.blocks shelf.now }
-    ensures { out.new ≡ view_of (setup frame C.MARK C.meaning) (R.holds shelf.now) (slots_in states.now) s (Role.Data j) }
-{
-    if j < frame.width {
-        judge_into::<R, C>(shelf, frame, states, s, Role::Data(j), out);
-    } else {
-        *out = Err(Defect::Blind);
+    // A block, judged alone.
+    pub fn judge<C: Checksum>(&self, spot: Spot) -> Verdict
+        requires same { spot.frame ≡ self.now.frame }
+        requires within { spot.stripe < R.blocks self.now.shelf.now }
+        ensures { result ≡ view_of (setup self.now.frame C.MARK C.meaning) (R.holds self.now.shelf.now) (slots_in self.now.states.now) spot.stripe spot.role }
+    {
+        let mut verdict = Err(Defect::Blind);
+        self.judge_into::<C>(spot, &mut verdict);
+        verdict
+    }
+
+    // Judges the data block of an index alone; an index that the stripe has not counts as blind.
+    fn judge_data<C: Checksum>(&self, s: u32, j: u32, out: &mut Verdict)
+        requires { s < R.blocks self.now.shelf.now }
+        ensures { out.new ≡ view_of (setup self.now.frame C.MARK C.meaning) (R.holds self.now.shelf.now) (slots_in self.now.states.now) s (Role.Data j) }
+    {
+        let frame = self.frame;
+        if j < frame.width {
+            let at = DataSpot {
+                frame,
+                stripe: s,
+                index: j,
+            };
+            self.judge_into::<C>(at.data(), out);
+        } else {
+            *out = Err(Defect::Blind);
+        }
+    }
+
+    // Judges each data block of stripe s alone.
+    fn look_data<C: Checksum>(&self, s: u32, data: &mut [Verdict; 7])
+        requires { s < R.blocks self.now.shelf.now }
+        ensures { «data».new ≡ row_of (view_of (setup self.now.frame C.MARK C.meaning) (R.holds self.now.shelf.now) (slots_in self.now.states.now) s) }
+    {
+        for (j, verdict) in data.iter_mut().enumerate() {
+            self.judge_data::<C>(s, j as u32, verdict);
+        }
+    }
+
+    // Judges the parity block of stripe s alone.
+    fn look_parity<C: Checksum>(&self, s: u32, parity: &mut Verdict)
+        requires { s < R.blocks self.now.shelf.now }
+        ensures { parity.new ≡ view_of (setup self.now.frame C.MARK C.meaning) (R.holds self.now.shelf.now) (slots_in self.now.states.now) s Role.Parity }
+    {
+        let spot = Spot {
+            frame: self.frame,
+            stripe: s,
+            role: Role::Parity,
+        };
+        self.judge_into::<C>(spot, parity);
+    }
+
+    // Looks at all blocks of stripe s, each judged alone, into a stripe that the caller keeps.
+    pub fn look_into<C: Checksum>(&self, s: u32, stripe: &mut Stripe)
+        requires { s < R.blocks self.now.shelf.now }
+        ensures { stripe.new ≡ stripe_of (view_of (setup self.now.frame C.MARK C.meaning) (R.holds self.now.shelf.now) (slots_in self.now.states.now) s) }
+    {
+        self.look_data::<C>(s, &mut stripe.data);
+        self.look_parity::<C>(s, &mut stripe.parity);
+    }
+
+    // All blocks of stripe s, each judged alone.
+    pub fn look<C: Checksum>(&self, s: u32) -> Stripe
+        requires { s < R.blocks self.now.shelf.now }
+        ensures { result ≡ stripe_of (view_of (setup self.now.frame C.MARK C.meaning) (R.holds self.now.shelf.now) (slots_in self.now.states.now) s) }
+    {
+        let mut stripe = Stripe::unseen();
+        self.look_into::<C>(s, &mut stripe);
+        stripe
     }
 }
 
-// Judges each data block of stripe s alone.
-fn look_data<R: ReadableShelf, C: Checksum>(
-    shelf: &R,
-    frame: Frame,
-    states: &[SlotState; 8],
-    s: u32,
-    data: &mut [Verdict; 7],
-)
-    requires cards { R.cards shelf.now ≡ frame.width + 1 }
-    requires within { s < R.blocks shelf.now }
-    ensures { «data».new ≡ row_of (view_of (setup frame C.MARK C.meaning) (R.holds shelf.now) (slots_in states.now) s) }
-{
-    for j in 0..7u32 {
-        judge_data::<R, C>(shelf, frame, states, s, j, &mut data[j as usize]);
+impl Stripe {
+    // A stripe of which nothing is seen.
+    pub fn unseen() -> Stripe
+        ensures { result ≡ unseen_stripe }
+    {
+        Stripe {
+            parity: Err(Defect::Blind),
+            data: [Err(Defect::Blind); 7],
+        }
     }
-}
-
-// Looks at all blocks of stripe s, each judged alone, into a stripe that the caller keeps.
-pub fn look_into<R: ReadableShelf, C: Checksum>(
-    shelf: &R,
-    frame: Frame,
-    states: &[SlotState; 8],
-    s: u32,
-    stripe: &mut Stripe,
-)
-    requires cards { R.cards shelf.now ≡ frame.width + 1 }
-    requires within { s < R.blocks shelf.now }
-    ensures { stripe.new ≡ stripe_of (view_of (setup frame C.MARK C.meaning) (R.holds shelf.now) (slots_in states.now) s) }
-{
-    look_data::<R, C>(shelf, frame, states, s, &mut stripe.data);
-    judge_into::<R, C>(shelf, frame, states, s, Role::Parity, &mut stripe.parity);
-}
-
-// A stripe of which nothing is seen.
-pub fn unseen() -> Stripe
-    ensures { result ≡ unseen_stripe }
-{
-    Stripe {
-        parity: Err(Defect::Blind),
-        data: [Err(Defect::Blind); 7],
-    }
-}
-
-// All blocks of stripe s, each judged alone.
-pub fn look<R: ReadableShelf, C: Checksum>(
-    shelf: &R,
-    frame: Frame,
-    states: &[SlotState; 8],
-    s: u32,
-) -> Stripe
-    requires cards { R.cards shelf.now ≡ frame.width + 1 }
-    requires within { s < R.blocks shelf.now }
-    ensures { result ≡ stripe_of (view_of (setup frame C.MARK C.meaning) (R.holds shelf.now) (slots_in states.now) s) }
-{
-    let mut stripe = unseen();
-    look_into::<R, C>(shelf, frame, states, s, &mut stripe);
-    stripe
 }

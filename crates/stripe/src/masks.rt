@@ -1,16 +1,29 @@
 // Leads, the mask, and what the number of its ones decides.
 ghost use Rattle.std.specs.Prelude.{◌≡◌, ℕ, ◌<◌, ◌≤◌, pos, ◌-ℤ◌, nat_lt};
-ghost use Rattle.stripe.specs.View.{as_view};
+ghost use Rattle.std.specs.List.{list_any, range_with_len};
+ghost use Rattle.stripe.specs.View.{seen_in};
+ghost use Rattle.stripe.specs.Findings.{lead_at};
 ghost use Rattle.stripe.specs.Judge.{lags_at, leads_at, any_lead, parity_bad, bad_role, mask_number, decision};
 
-use crate::shapes::Decision;
-use block::{Frame, Role, Verdict, role_at, version};
+use crate::shapes::{Decision, Stripe};
+use block::{Frame, Role, Spot, Verdict, version};
 
 // The lead of a version over the one that parity mirrors.
 pub fn lead(own: u32, mirrored: u32) -> i64
     ensures { result ≡ pos own -ℤ pos mirrored }
 {
     i64::from(own) - i64::from(mirrored)
+}
+
+// The lead of data block j, if it and parity are readable.
+pub fn lead_at(block: &Verdict, parity: &Verdict, j: u32) -> Option<i64>
+    requires { j < 7 }
+    ensures { result ≡ lead_at block.now parity.now j }
+{
+    match (block, parity) {
+        (Ok(b), Ok(p)) => Some(lead(version(b, 0), version(p, j))),
+        _ => None,
+    }
 }
 
 // A negative lead: the data block is behind.
@@ -31,12 +44,10 @@ fn lags(block: &Verdict, parity: &Verdict, j: u32) -> bool
     requires { j < 7 }
     ensures { result ≡ lags_at block.now parity.now j }
 {
-    match block {
-        Err(_) => true,
-        Ok(b) => match parity {
-            Err(_) => false,
-            Ok(p) => is_behind(version(b, 0), version(p, j)),
-        },
+    match (block, parity) {
+        (Err(_), _) => true,
+        (Ok(_), Err(_)) => false,
+        (Ok(b), Ok(p)) => is_behind(version(b, 0), version(p, j)),
     }
 }
 
@@ -45,65 +56,70 @@ fn leads(block: &Verdict, p: &[u8; 128], j: u32) -> bool
     ensures { result ≡ leads_at block.now p.now j }
 {
     match block {
-        Err(_) => false,
         Ok(b) => is_ahead(version(b, 0), version(p, j)),
+        Err(_) => false,
     }
 }
 
-fn any_lead(parity: &Verdict, p: &[u8; 128], data: &[Verdict; 7], width: u32) -> bool
-    requires { width ≤ 7 }
-    ensures { result ≡ any_lead (as_view parity.now «data».now) p.now width }
-{
-    let mut any = false;
-    for j in 0..width {
-        any = leads(&data[j as usize], p, j) | any;
+impl Stripe {
+    // The verdict on the data block of an index.
+    pub fn data_at(&self, j: u32) -> &Verdict
+        requires { j < 7 }
+        ensures { result.now ≡ seen_in self.now (Role.Data j) }
+    {
+        &self.data[j as usize]
     }
-    any
-}
 
-fn parity_bad(parity: &Verdict, data: &[Verdict; 7], width: u32) -> bool
-    requires { width ≤ 7 }
-    ensures { result ≡ parity_bad parity.now (as_view parity.now «data».now) width }
-{
-    match parity {
-        Err(_) => true,
-        Ok(p) => any_lead(parity, p, data, width),
+    fn any_lead(&self, p: &[u8; 128], width: u32) -> bool
+        requires { width ≤ 7 }
+        ensures { result ≡ list_any (λ j. leads_at (seen_in self.now (Role.Data j)) p.now j) (range_with_len 0 width) }
+    {
+        (0..width).any(|j| leads(self.data_at(j), p, j))
     }
-}
 
-// Whether a block of the stripe is blind, broken, foreign or behind.
-pub fn bad_role(parity: &Verdict, data: &[Verdict; 7], frame: Frame, role: Role) -> bool
-    requires placed { (j : ℕ) → role ≡ Role.Data j → j < frame.width }
-    ensures { result ≡ bad_role frame.width (as_view parity.now «data».now) role }
-{
-    match role {
-        Role::Parity => parity_bad(parity, data, frame.width),
-        Role::Data(j) => lags(&data[j as usize], parity, j),
-    }
-}
-
-// The mask of stripe s: bit c is set if the block in slot c is bad.
-pub fn mask_of(parity: &Verdict, data: &[Verdict; 7], frame: Frame, s: u32) -> u8
-    ensures { result ≡ mask_number frame.width s (as_view parity.now «data».now) }
-{
-    let mut mask = 0u8;
-    for c in 0..frame.width + 1 {
-        if bad_role(parity, data, frame, role_at(frame, s, c)) {
-            mask |= 1u8 << c;
+    fn parity_bad(&self, width: u32) -> bool
+        requires { width ≤ 7 }
+        ensures { result ≡ parity_bad self.now.parity (seen_in self.now) width }
+    {
+        match &self.parity {
+            Ok(p) => self.any_lead(p, width),
+            Err(_) => true,
         }
     }
-    mask
-}
 
-// No bad block is clean, a single one can be mended, more are lost.
-pub fn decide(parity: &Verdict, data: &[Verdict; 7], frame: Frame, s: u32) -> Decision
-    ensures is { result ≡ decision frame.width s (as_view parity.now «data».now) }
-    ensures placed { (j : ℕ) → result ≡ Decision.Only (Role.Data j) → j < frame.width }
-{
-    let mask = mask_of(parity, data, frame, s);
-    match mask.count_ones() {
-        0 => Decision::Clean,
-        1 => Decision::Only(role_at(frame, s, mask.trailing_zeros())),
-        _ => Decision::Lost,
+    // Whether a block is blind, broken, foreign or behind.
+    pub fn is_bad(&self, spot: Spot) -> bool
+        ensures { result ≡ bad_role spot.frame.width (seen_in self.now) spot.role }
+    {
+        match spot.role {
+            Role::Parity => self.parity_bad(spot.frame.width),
+            Role::Data(j) => lags(self.data_at(j), &self.parity, j),
+        }
+    }
+
+    // The mask of stripe s: bit c is set if the block in slot c is bad.
+    pub fn mask(&self, frame: Frame, s: u32) -> u8
+        ensures { result ≡ mask_number frame.width s (seen_in self.now) }
+    {
+        let mut mask = 0u8;
+        for c in 0..frame.width + 1 {
+            if self.is_bad(frame.spot_at(s, c)) {
+                mask |= 1u8 << c;
+            }
+        }
+        mask
+    }
+
+    // No bad block is clean, a single one can be mended, more are lost.
+    pub fn decide(&self, frame: Frame, s: u32) -> Decision
+        ensures is { result ≡ decision frame.width s (seen_in self.now) }
+        ensures placed { (j : ℕ) → result ≡ Decision.Only (Role.Data j) → j < frame.width }
+    {
+        let mask = self.mask(frame, s);
+        match mask.count_ones() {
+            0 => Decision::Clean,
+            1 => Decision::Only(frame.role_at(s, mask.trailing_zeros())),
+            _ => Decision::Lost,
+        }
     }
 }

@@ -2,23 +2,21 @@
 ghost use Rattle.std.specs.Prelude.{◌≡◌, ℕ, ◌+◌, ◌<◌, length};
 ghost use Rattle.block.specs.Judging.{setup};
 ghost use Rattle.stripe.specs.Survey.{setup_on, mask_at, stripe_masks, survey_answer, survey_masks};
+ghost use Rattle.stripe.specs.View.{slots_in, all_in};
 
-use crate::looks::{frame_of, look};
-use crate::masks::mask_of;
-use crate::shapes::SlotState;
+use crate::cards::CardView;
+use crate::looks::{all_slots_in, frame_of};
 use block::{Frame, Refusal};
 use checksum::Checksum;
 use shelf::ReadableShelf;
 
 // The mask of stripe s with all slots in.
-fn mask_at<R: ReadableShelf, C: Checksum>(shelf: &R, frame: Frame, s: u32) -> u8
-    requires cards { R.cards shelf.now ≡ frame.width + 1 }
-    requires within { s < R.blocks shelf.now }
-    ensures { result ≡ mask_at (setup frame C.MARK C.meaning) (R.holds shelf.now) s }
+fn mask_at<R: ReadableShelf, C: Checksum>(cards: &CardView<R>, s: u32) -> u8
+    requires within { s < R.blocks cards.now.shelf.now }
+    requires all_in { slots_in cards.now.states.now ≡ all_in }
+    ensures { result ≡ mask_at (setup cards.now.frame C.MARK C.meaning) (R.holds cards.now.shelf.now) s }
 {
-    let states = [SlotState::In; 8];
-    let stripe = look::<R, C>(shelf, frame, &states, s);
-    mask_of(&stripe.parity, &stripe.data, frame, s)
+    cards.look::<C>(s).mask(cards.frame, s)
 }
 
 // Writes the mask of each stripe.
@@ -28,8 +26,14 @@ fn write_masks<R: ReadableShelf, C: Checksum>(shelf: &R, frame: Frame, masks: &m
     requires long { length masks.old ≡ frame.blocks }
     ensures { masks.new ≡ stripe_masks (setup_on (R.cards shelf.now) (R.blocks shelf.now) frame.tag C.MARK C.meaning) (R.holds shelf.now) }
 {
-    for s in 0..frame.blocks {
-        masks[s as usize] = mask_at::<R, C>(shelf, frame, s);
+    let states = all_slots_in();
+    let cards = CardView {
+        shelf,
+        frame,
+        states: &states,
+    };
+    for (s, mask) in masks.iter_mut().enumerate() {
+        *mask = mask_at::<R, C>(&cards, s as u32);
     }
 }
 

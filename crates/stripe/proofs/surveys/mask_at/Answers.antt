@@ -5,5 +5,5 @@ use Rattle.stripe.proofs.surveys.mask_at.Goals as goal
 
 pub returns : goal.returns
 returns g c =
-    c.mask_of.ensures
-    ∙ mask_held (setup c.args.frame g.C.Checksum.MARK g.C.Checksum.meaning) _ 8 _ _ (omega arith) c.look-stripe.ensures
+    c.mask.ensures
+    ∙ mask_held (setup c.args.cards.now.frame g.C.Checksum.MARK g.C.Checksum.meaning) _ _ _ _ (omega arith) c.requires.all_in c.look.ensures

@@ -3,7 +3,7 @@ use Rattle.std.proofs.Common.{arith}
 use Rattle.block.specs.declared.shapes.Defect.TheVariants.{Blind}
 use Rattle.stripe.specs.View.{row_of}
 use Rattle.stripe.proofs.Rows.{filled_none, filled_more, filled_all}
-use Rattle.stripe.proofs.looks.look_data.Goals as goal
+use Rattle.stripe.proofs.cards.CardView.look_data.Goals as goal
 
 pub loop-j-init : goal.loop-j-init
 loop-j-init g c = filled_none 7 _ _ c.told-data

@@ -1,7 +1,0 @@
-use Rattle.std.proofs.Common.{sym}
-use Rattle.block.specs.Judging.{setup}
-use Rattle.stripe.proofs.Views.{view_out}
-use Rattle.stripe.proofs.looks.judge_data.Goals as goal
-
-pub returns-else-j-frame : goal.returns-else-j-frame
-returns-else-j-frame g c = sym (view_out (setup c.args.frame g.C.Checksum.MARK g.C.Checksum.meaning) _ _ _ c.args.j c.if-j-frame.false)

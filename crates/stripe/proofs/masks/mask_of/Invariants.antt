@@ -1,8 +1,0 @@
-use Rattle.std.proofs.Common.{◌≡◌}
-use Rattle.stripe.specs.Judge.{bad_slots}
-use Rattle.stripe.specs.Masks.{mask_of}
-use Rattle.stripe.specs.View.{as_view}
-use Rattle.stripe.proofs.masks.mask_of.Given as goal
-
-abbrev pub invariant-loop-c : goal.invariant-loop-c
-invariant-loop-c l = l.mask ≡ mask_of (bad_slots l.frame.width l.s (as_view l.parity l.«data») l.c)
