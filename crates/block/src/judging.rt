@@ -5,7 +5,7 @@ ghost use Rattle.block.specs.Layout.{version_of};
 ghost use Rattle.block.specs.Judging.{setup, kind_of, used_of, block_with, broken_by, marks_fit, native_block, judged, alone, RightSum};
 
 use crate::codec::{seal, version};
-use crate::shapes::{Cell, Defect, Fields, Role, Verdict};
+use crate::shapes::{Cell, Defect, Fields, Record, Role, Verdict};
 use crate::spot::Spot;
 use checksum::{Checksum, be32};
 
@@ -44,23 +44,18 @@ impl Spot {
         }
     }
 
-    // The block with this payload, owner and versions.
-    pub fn make_block<C: Checksum>(
-        self,
-        payload: &[u8; 80],
-        owner: u32,
-        versions: &[u32; 7],
-    ) -> [u8; 128]
-        ensures { result ≡ block_with (setup self.frame C.MARK C.meaning) self.stripe self.role payload.now owner versions.now }
+    // The block that keeps a record, with these versions.
+    pub fn make_block<C: Checksum>(self, kept: &Record, versions: &[u32; 7]) -> [u8; 128]
+        ensures { result ≡ block_with (setup self.frame C.MARK C.meaning) self.stripe self.role kept.now.payload kept.now.owner versions.now }
     {
         let fields = Fields {
-            payload: *payload,
+            payload: kept.payload,
             kind: self.kind(),
             mark: C::MARK,
             slot: self.slot() as u8,
             cards: (self.frame.width + 1) as u8,
             block: self.stripe,
-            owner,
+            owner: kept.owner,
             versions: *versions,
             tag: self.frame.tag,
         };

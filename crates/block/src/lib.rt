@@ -12,5 +12,5 @@ mod spot;
 pub use codec::{decode, encode, owner, seal, version};
 pub use frame::Frame;
 pub use refusal::Refusal;
-pub use shapes::{Cell, Defect, Fields, Place, Position, Role, Verdict};
+pub use shapes::{Cell, Defect, Fields, Place, Position, Record, Role, Verdict};
 pub use spot::{DataSpot, Spot};

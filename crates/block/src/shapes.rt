@@ -38,6 +38,13 @@ pub enum Defect {
 // A block judged alone: its bytes where it is readable.
 pub type Verdict = Result<[u8; 128], Defect>;
 
+// What a block is to keep: a payload, and the owner that it has it for.
+#[derive(Clone, Copy)]
+pub struct Record {
+    pub payload: [u8; 80],
+    pub owner: u32,
+}
+
 // The fields of a block, but for its checksum.
 #[derive(Clone, Copy)]
 pub struct Fields {

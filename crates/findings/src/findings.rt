@@ -1,27 +1,17 @@
 // What is found at each place of a stripe.
 ghost use Rattle.std.specs.Prelude.{◌≡◌, Bool, ◌||◌, ℕ, ◌<◌, ◌≤◌, eqb};
-ghost use Rattle.stripe.specs.View.{as_view};
-ghost use Rattle.stripe.specs.Findings.{cause_of, layer_in, condition_of, lead_at, greater, greatest_lead, lead_shown, finding_of, not_looked, is_mended, found_at, findings_all, found_quick, findings_quick};
+ghost use Rattle.stripe.specs.View.{seen_in};
+ghost use Rattle.stripe.specs.Findings.{layer_in, condition_of, greater, greatest_lead, lead_shown, finding_of, not_looked, is_mended, found_at, findings_all, found_quick, findings_quick};
 
-use block::{Defect, Frame, Role, Verdict, role_at, slot_of, version};
-use stripe::{Cause, Condition, Finding, Layer, bad_role, lead};
-
-fn cause_of(defect: Defect) -> Cause
-    ensures { result ≡ cause_of defect }
-{
-    match defect {
-        Defect::Blind => Cause::Blind,
-        Defect::Broken => Cause::Broken,
-        Defect::Foreign => Cause::Foreign,
-    }
-}
+use block::{DataSpot, Frame, Role, Spot, Verdict};
+use std::array;
+use stripe::{Cause, Condition, Finding, Layer, Stripe, lead_at};
 
 fn layer_in(condition: Condition) -> Option<Layer>
     ensures { result ≡ layer_in condition }
 {
     match condition {
-        Condition::NotLooked => None,
-        Condition::Readable => None,
+        Condition::NotLooked | Condition::Readable => None,
         Condition::Bad(cause) => Some(cause.layer()),
     }
 }
@@ -31,26 +21,9 @@ fn condition_of(block: &Verdict, bad: bool) -> Condition
     ensures { result ≡ condition_of block.now bad }
 {
     match block {
-        Err(defect) => Condition::Bad(cause_of(*defect)),
-        Ok(_) => if bad {
-            Condition::Bad(Cause::Behind)
-        } else {
-            Condition::Readable
-        },
-    }
-}
-
-// The lead of data block j, if it and parity are readable.
-pub fn lead_at(block: &Verdict, parity: &Verdict, j: u32) -> Option<i64>
-    requires { j < 7 }
-    ensures { result ≡ lead_at block.now parity.now j }
-{
-    match block {
-        Err(_) => None,
-        Ok(b) => match parity {
-            Err(_) => None,
-            Ok(p) => Some(lead(version(b, 0), version(p, j))),
-        },
+        Err(defect) => Condition::Bad(Cause::from(*defect)),
+        Ok(_) if bad => Condition::Bad(Cause::Behind),
+        Ok(_) => Condition::Readable,
     }
 }
 
@@ -58,34 +31,27 @@ pub fn lead_at(block: &Verdict, parity: &Verdict, j: u32) -> Option<i64>
 fn greater_of(x: Option<i64>, y: Option<i64>) -> Option<i64>
     ensures { result ≡ greater x y }
 {
-    match x {
-        None => y,
-        Some(a) => match y {
-            None => x,
-            Some(b) => if a < b { y } else { x },
-        },
-    }
+    x.max(y)
 }
 
-fn greatest_lead(parity: &Verdict, data: &[Verdict; 7], width: u32) -> Option<i64>
+fn greatest_lead(stripe: &Stripe, width: u32) -> Option<i64>
     requires { width ≤ 7 }
-    ensures { result ≡ greatest_lead (as_view parity.now «data».now) width }
+    ensures { result ≡ greatest_lead (seen_in stripe.now) width }
 {
     let mut greatest = None;
     for j in 0..width {
-        greatest = greater_of(lead_at(&data[j as usize], parity, j), greatest);
+        greatest = greater_of(lead_at(stripe.data_at(j), &stripe.parity, j), greatest);
     }
     greatest
 }
 
 // The lead that is shown for a block.
-fn lead_shown(parity: &Verdict, data: &[Verdict; 7], frame: Frame, role: Role) -> Option<i64>
-    requires placed { (j : ℕ) → role ≡ Role.Data j → j < frame.width }
-    ensures { result ≡ lead_shown frame.width (as_view parity.now «data».now) role }
+fn lead_shown(stripe: &Stripe, spot: Spot) -> Option<i64>
+    ensures { result ≡ lead_shown spot.frame.width (seen_in stripe.now) spot.role }
 {
-    match role {
-        Role::Parity => greatest_lead(parity, data, frame.width),
-        Role::Data(j) => lead_at(&data[j as usize], parity, j),
+    match spot.role {
+        Role::Parity => greatest_lead(stripe, spot.frame.width),
+        Role::Data(j) => lead_at(stripe.data_at(j), &stripe.parity, j),
     }
 }
 
@@ -117,83 +83,52 @@ fn not_looked(s: u32, slot: u32) -> Finding
 fn is_mended(mended: Option<u32>, slot: u32) -> bool
     ensures { result ≡ is_mended mended slot }
 {
-    match mended {
-        None => false,
-        Some(m) => slot == m,
-    }
+    mended == Some(slot)
 }
 
-fn verdict_of(parity: &Verdict, data: &[Verdict; 7], frame: Frame, role: Role) -> Verdict
-    requires placed { (j : ℕ) → role ≡ Role.Data j → j < frame.width }
-    ensures { result ≡ as_view parity.now «data».now role }
+fn found_at(stripe: &Stripe, frame: Frame, s: u32, mended: Option<u32>, slot: u32) -> Finding
+    ensures { result ≡ found_at frame.width s (seen_in stripe.now) mended slot }
 {
-    match role {
-        Role::Parity => *parity,
-        Role::Data(j) => data[j as usize],
+    if slot > frame.width {
+        return not_looked(s, slot);
     }
-}
-
-fn found_at(
-    parity: &Verdict,
-    data: &[Verdict; 7],
-    frame: Frame,
-    s: u32,
-    mended: Option<u32>,
-    slot: u32,
-) -> Finding
-    ensures { result ≡ found_at frame.width s (as_view parity.now «data».now) mended slot }
-{
-    if slot <= frame.width {
-        let role = role_at(frame, s, slot);
-        let condition = condition_of(
-            &verdict_of(parity, data, frame, role),
-            bad_role(parity, data, frame, role),
-        );
-        finding_of(
-            slot,
-            s,
-            condition,
-            lead_shown(parity, data, frame, role),
-            is_mended(mended, slot),
-        )
-    } else {
-        not_looked(s, slot)
-    }
+    let spot = frame.spot_at(s, slot);
+    finding_of(
+        slot,
+        s,
+        condition_of(stripe.at(spot), stripe.is_bad(spot)),
+        lead_shown(stripe, spot),
+        is_mended(mended, slot),
+    )
 }
 
 // The findings of stripe s, all of whose places were looked at, with the slot that was mended, if any.
 pub fn findings_all(
-    parity: &Verdict,
-    data: &[Verdict; 7],
+    stripe: &Stripe,
     frame: Frame,
     s: u32,
     mended: Option<u32>,
     out: &mut [Finding; 8],
 )
-    ensures { out.new ≡ findings_all frame.width s (as_view parity.now «data».now) mended }
+    ensures { out.new ≡ findings_all frame.width s (seen_in stripe.now) mended }
 {
-    for slot in 0..8u32 {
-        out[slot as usize] = found_at(parity, data, frame, s, mended, slot);
-    }
+    *out = array::from_fn(|slot| found_at(stripe, frame, s, mended, slot as u32));
 }
 
-fn found_quick(frame: Frame, s: u32, j: u32, slot: u32) -> Finding
-    requires { j < frame.width }
-    ensures { result ≡ found_quick frame.width s j slot }
+fn found_quick(at: DataSpot, slot: u32) -> Finding
+    ensures { result ≡ found_quick at.frame.width at.stripe at.index slot }
 {
-    if slot == slot_of(frame, s, Role::Data(j)) || slot == slot_of(frame, s, Role::Parity) {
-        finding_of(slot, s, Condition::Readable, Some(0), false)
+    if slot == at.data().slot() || slot == at.parity().slot() {
+        finding_of(slot, at.stripe, Condition::Readable, Some(0), false)
     } else {
-        not_looked(s, slot)
+        not_looked(at.stripe, slot)
     }
 }
 
-// The findings where only data block j and parity were looked at, both readable and level.
-pub fn findings_quick(frame: Frame, s: u32, j: u32, out: &mut [Finding; 8])
-    requires { j < frame.width }
-    ensures { out.new ≡ findings_quick frame.width s j }
+// The findings where only a data block and its parity were looked at, both readable and level.
+#[tactic(auto, unfolding(stripe::specs::Findings::findings_quick))]
+pub fn findings_quick(at: DataSpot, out: &mut [Finding; 8])
+    ensures { out.new ≡ findings_quick at.frame.width at.stripe at.index }
 {
-    for slot in 0..8u32 {
-        out[slot as usize] = found_quick(frame, s, j, slot);
-    }
+    *out = array::from_fn(|slot| found_quick(at, slot as u32));
 }

@@ -3,4 +3,4 @@
 
 mod findings;
 
-pub use findings::{findings_all, findings_quick, lead_at};
+pub use findings::{findings_all, findings_quick};

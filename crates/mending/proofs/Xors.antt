@@ -84,9 +84,10 @@ module _ (vs : List Verdict) (j : ℕ) (p : List ℕ) where
   unfolding data_row bytes
   data_here k row e q = row_more (λ i. at (bytes i) j (get_or p i 0)) k row _ e (λ i. at_here (bytes i) j (get_or p i 0) k q)
 
-  pub data_other : (k : ℕ) (row : List ℕ) → row ≡ data_row vs k j p → (k ≡ j → ⊥) → xor_row row (λ i. byte_in (get_or vs k (Err Blind)) i) ≡ data_row vs (k + 1) j p
+  pub data_other : (k : ℕ) (row : List ℕ) (v : Verdict) → row ≡ data_row vs k j p → (k ≡ j → ⊥) → v ≡ get_or vs k (Err Blind) → xor_row row (λ i. byte_in v i) ≡ data_row vs (k + 1) j p
   unfolding data_row bytes
-  data_other k row e ne = row_more (λ i. at (bytes i) j (get_or p i 0)) k row _ e (λ i. at_other (bytes i) j (get_or p i 0) k ne)
+  data_other k row v e ne q =
+      row_more (λ i. at (bytes i) j (get_or p i 0)) k row _ e (λ i. ap (λ w. byte_in w i) q ∙ at_other (bytes i) j (get_or p i 0) k ne)
 
   data_at : (d i : ℕ) → i < 80 → get_or (data_row vs d j p) i 0 ≡ xors d (at (bytes i) j (get_or p i 0))
   unfolding data_row bytes
@@ -128,11 +129,11 @@ module _ (q : Verdict) (vs : List Verdict) (d : ℕ) where
     unfolding summed_row data_row
     summed_all row is e = e ∙ ap (λ t. summed_row t d (as_view q vs) j p) (sym is)
 
-    pub summed_sum : (row out : List ℕ) → plan ≡ BySum → row ≡ xor_row p (λ i. byte_in (get_or vs j (Err Blind)) i) → out ≡ xor_row row (λ i. byte_in q i) → out ≡ summed_row plan d (as_view q vs) j p
+    pub summed_sum : (v : Verdict) (row out : List ℕ) → plan ≡ BySum → v ≡ get_or vs j (Err Blind) → row ≡ xor_row p (λ i. byte_in v i) → out ≡ xor_row row (λ i. byte_in q i) → out ≡ summed_row plan d (as_view q vs) j p
     unfolding summed_row xor_row
-    summed_sum row out is e h =
+    summed_sum v row out is same e h =
         h
         ∙ table_same 80 _ (λ i. bit_xor (bit_xor (byte_in q i) (byte_in (get_or vs j (Err Blind)) i)) (get_or p i 0)) (λ i l.
-        ap (λ x. bit_xor x (byte_in q i)) (ap (λ r. get_or r i 0) e ∙ xor_at p (λ n. byte_in (get_or vs j (Err Blind)) n) i l)
+        ap (λ x. bit_xor x (byte_in q i)) (ap (λ r. get_or r i 0) e ∙ xor_at p (λ n. byte_in v n) i l ∙ ap (λ w. bit_xor (get_or p i 0) (byte_in w i)) same)
         ∙ turned (get_or p i 0) (byte_in (get_or vs j (Err Blind)) i) (byte_in q i))
         ∙ ap (λ t. summed_row t d (as_view q vs) j p) (sym is)

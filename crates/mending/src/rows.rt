@@ -4,14 +4,15 @@ ghost use Rattle.stripe.specs.Mend.{byte_in, owner_in, version_in};
 ghost use Rattle.mending.specs.Rows.{xor_row, data_row, data_owner};
 
 use block::{Verdict, owner, version};
+use stripe::Stripe;
 
 // XOR of a payload with the first 80 bytes of another row.
 pub fn xor_bytes(row: &mut [u8; 80], other: &[u8])
     requires { 80 ≤ length other.now }
     ensures { row.new ≡ xor_row row.old (λ i. slice_index other.now i) }
 {
-    for i in 0..80usize {
-        row[i] ^= other[i];
+    for (i, byte) in row.iter_mut().enumerate() {
+        *byte ^= other[i];
     }
 }
 
@@ -20,22 +21,22 @@ pub fn xor_block(row: &mut [u8; 80], block: &Verdict)
     ensures { row.new ≡ xor_row row.old (λ i. byte_in block.now i) }
 {
     match block {
-        Err(_) => {}
         Ok(b) => xor_bytes(row, b),
+        Err(_) => {}
     }
 }
 
 // The XOR of the data payloads, with another one in place of index j.
-pub fn data_row(data: &[Verdict; 7], width: u32, j: u32, payload: &[u8; 80]) -> [u8; 80]
+pub fn data_row(stripe: &Stripe, width: u32, j: u32, payload: &[u8; 80]) -> [u8; 80]
     requires { width ≤ 7 }
-    ensures { result ≡ data_row «data».now width j payload.now }
+    ensures { result ≡ data_row stripe.now.«data» width j payload.now }
 {
     let mut row = [0u8; 80];
     for k in 0..width {
         if k == j {
             xor_bytes(&mut row, payload);
         } else {
-            xor_block(&mut row, &data[k as usize]);
+            xor_block(&mut row, stripe.data_at(k));
         }
     }
     row
@@ -46,8 +47,8 @@ pub fn owner_in(block: &Verdict) -> u32
     ensures { result ≡ owner_in block.now }
 {
     match block {
-        Err(_) => 0,
         Ok(b) => owner(b),
+        Err(_) => 0,
     }
 }
 
@@ -57,22 +58,22 @@ pub fn version_in(block: &Verdict, k: u32) -> u32
     ensures { result ≡ version_in block.now k }
 {
     match block {
-        Err(_) => 0,
         Ok(b) => version(b, k),
+        Err(_) => 0,
     }
 }
 
 // The XOR of the data owners, with another one in place of index j.
-pub fn data_owner(data: &[Verdict; 7], width: u32, j: u32, owner: u32) -> u32
+pub fn data_owner(stripe: &Stripe, width: u32, j: u32, owner: u32) -> u32
     requires { width ≤ 7 }
-    ensures { result ≡ data_owner «data».now width j owner }
+    ensures { result ≡ data_owner stripe.now.«data» width j owner }
 {
     let mut all = 0;
     for k in 0..width {
         all ^= if k == j {
             owner
         } else {
-            owner_in(&data[k as usize])
+            owner_in(stripe.data_at(k))
         };
     }
     all

@@ -1,5 +1,7 @@
 -- A row that a loop fills from its start, and tables of equal parts. Assumes nothing.
 use Rattle.std.proofs.Common.{◌≡◌, ℕ, zero, suc, ◌+◌, ◌<◌, ◌≤◌, List, ◌∷◌, map, length, get_or, set, sym, refl, ap, ◌∙◌, ap₂, ⊎_elim, arith, length-set, get_or-set_other, get_or-set_same}
+use denote.Param.Members.{Mut, Called}
+use Rattle.std.specs.Array.{IsFromFnResult, IsFromFnResultFrom}
 use Rattle.std.specs.List.{range_with_len}
 use Rattle.std.proofs.lemmas.List.FromFn.{fill_by_all}
 use Rattle.std.proofs.lemmas.Bool.{cases_eq}
@@ -31,3 +33,17 @@ same_from f g (suc n) a h = ap₂ ◌∷◌ (h a (omega arith) (omega arith)) (s
 
 pub table_same : {A : Type 0} (n : ℕ) (f g : ℕ → A) → ((i : ℕ) → i < n → f i ≡ g i) → table n f ≡ table n g
 table_same n f g h = same_from f g n 0 (λ i l m. h i (omega arith))
+
+-- an array that a closure makes, each call of which leaves it as it was
+module _ {F B : Type 0} (g : Mut F (ℕ × Unit {0}) B) (h : ℕ → B) (f : F) (says : (i : ℕ) (y : B) (q : F) → Called g f (i, tt) y q → (y ≡ h i) × (q ≡ f)) (ys : List B) where
+  made_from : (i m k : ℕ) (p : F) (d : B) → p ≡ f → IsFromFnResultFrom g p ys i m → i ≤ k → k < i + m → get_or ys k d ≡ h k
+  made_from i zero k p d e r l lt = absurd (omega arith)
+  made_from i (suc m) k p d e (q, y, at, call, rest) l lt =
+      let s = says i y q (rw e at call) in
+      ⊎_elim
+      (λ same. ap (λ j. get_or ys j d) same ∙ at.1 d ∙ s.0 ∙ ap h (sym same))
+      (λ ne. made_from (i + 1) m k q d s.1 rest (omega arith) (omega arith))
+      (cases_eq k i)
+
+  pub from_fn_same : (n : ℕ) → IsFromFnResult g f ys n → ys ≡ table n h
+  from_fn_same n r = fill_by_all h ys n (h 0) r.long (λ k l. made_from 0 n k f (h 0) refl r.each (omega arith) (omega arith))

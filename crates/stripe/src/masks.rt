@@ -70,6 +70,16 @@ impl Stripe {
         &self.data[j as usize]
     }
 
+    // The verdict on a block.
+    pub fn at(&self, spot: Spot) -> &Verdict
+        ensures { result.now ≡ seen_in self.now spot.role }
+    {
+        match spot.role {
+            Role::Parity => &self.parity,
+            Role::Data(j) => self.data_at(j),
+        }
+    }
+
     fn any_lead(&self, p: &[u8; 128], width: u32) -> bool
         requires { width ≤ 7 }
         ensures { result ≡ list_any (λ j. leads_at (seen_in self.now (Role.Data j)) p.now j) (range_with_len 0 width) }

@@ -1,6 +1,7 @@
+use Rattle.std.proofs.Common.{rules}
 use Rattle.stripe.specs.Renew.{new_data}
 use Rattle.mending.proofs.renew.new_data.Goals as goal
 
 pub returns : goal.returns
 unfolding new_data
-returns g c = c.make_block.ensures
+returns g c = search rules

@@ -1,14 +1,9 @@
-use Rattle.std.proofs.Common.{refl, arith}
-use Rattle.stripe.specs.Renew.{new_versions}
-use Rattle.stripe.proofs.Rows.{filled_none, filled_more, filled_all}
+use Rattle.std.proofs.Common.{rules}
+use Rattle.stripe.specs.Renew.{new_version_at, new_versions}
+use Rattle.stripe.specs.View.{seen_in}
+use Rattle.stripe.proofs.Rows.{from_fn_same}
 use Rattle.mending.proofs.renew.new_versions.Goals as goal
-
-pub loop-k-init : goal.loop-k-init
-loop-k-init c = filled_none 7 _ _ refl
-
-pub loop-k-preserved : goal.loop-k-preserved
-loop-k-preserved c = filled_more 7 _ c.loop-k.k _ _ (omega arith) c.loop-k.invariant c.new_version_at.ensures
 
 pub returns : goal.returns
 unfolding new_versions
-returns c = filled_all 7 _ c.loop-k.k _ 0 (omega arith) c.loop-k.invariant
+returns c = from_fn_same _ (new_version_at c.args.bad c.args.at.frame.width (seen_in c.args.stripe.now) c.args.at.index c.args.version) _ (λ i y q k. search rules) _ 7 c.from_fn.ensures.items

@@ -9,5 +9,5 @@ loop-k-init c = data_none _ _ _
 pub loop-k-preserved : goal.loop-k-preserved
 loop-k-preserved c = elim c.if-k-j.branch [
   | then-k-j w ↦ w.row-is ∙ w.xor_bytes.ensures ∙ data_here _ _ _ _ _ c.loop-k.invariant w.if-k-j.true
-  | else-k-j w ↦ w.row-is ∙ w.xor_block.ensures ∙ data_other _ _ _ _ _ c.loop-k.invariant w.if-k-j.false
+  | else-k-j w ↦ w.row-is ∙ w.xor_block.ensures ∙ data_other _ _ _ _ _ _ c.loop-k.invariant w.if-k-j.false w.data_at.ensures
 ]
