@@ -19,7 +19,7 @@ use Rattle.runs.proofs.Goods.{good_takes}
 use Rattle.runs.proofs.Puts.{bytes_seen}
 
 not_some : (x : SlotState) → ◌≡◌ {A = Option SlotState} None (Some x) → ⊥
-not_some x e = let z : ◌≡◌ {A = ℕ} 0 1 = cc in omega arith
+not_some x e = cc
 
 -- an event that a state allows leads to what the book notes
 next_is : (all : Bool) (n : ℕ) (t : SlotState) (e : Event) (x : SlotState) → next_state all n t e ≡ Some x → x ≡ event_to e
@@ -51,7 +51,7 @@ fit_out all n Out x h = refl
 fit_out all n (Filling m) x h = absurd (not_some x h)
 
 not_ok : {T : Type 0} (r : Refusal) (x : T) → ◌≡◌ {A = Result T Refusal} (Err r) (Ok x) → ⊥
-not_ok r x e = let z : ◌≡◌ {A = ℕ} 0 1 = cc in omega arith
+not_ok r x e = cc
 
 allowed_is : (y : Option SlotState) (x : SlotState) → allowed y ≡ Ok x → y ≡ Some x
 allowed_is None x e = absurd (not_ok NotAllowed x e)

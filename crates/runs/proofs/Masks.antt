@@ -107,7 +107,7 @@ module _ (E : Setup) (C : CodecLaws E) (s : ℕ) (a : s < E.S) (f : ℕ → Rec)
   poor_set Parity i (good_parity p h) d = absurd (never p d)
     where
       never : Ok Parity → No Parity → ⊥
-      never p (unfit c e) = let z : ◌≡◌ {A = ℕ} 0 1 = cc in omega arith
+      never p (unfit c e) = cc
       never p (behind b e v) =
           let z : b ≡ parity_of E s R = cc in
           omega (arith, v.1.2, ver_parity E C s a f F v.1.0 v.1.1, ap (λ x. version_of x v.1.0) z)
@@ -116,7 +116,7 @@ module _ (E : Setup) (C : CodecLaws E) (s : ℕ) (a : s < E.S) (f : ℕ → Rec)
   poor_set (Data j) i (bad_parity p h) d = absurd (never (h j i) d)
     where
       never : Ok (Data j) → No (Data j) → ⊥
-      never p (unfit c e) = let z : ◌≡◌ {A = ℕ} 0 1 = cc in omega arith
+      never p (unfit c e) = cc
       never p (behind b e v) =
           let z : b ≡ data_of E s j (R j) = cc in omega (arith, v, ver_data E C s a f F j i, ap (λ x. version_of x 0) z)
 

@@ -35,8 +35,8 @@ version_small v n t = go (cases_Bool (ltb v 4294967295))
 
 plan_told : (p : Plan) (v n : ℕ) → is_ok (plan_answer p v n) ≡ true → (p ≡ NoPlan → ⊥) × (suc v < 2 ^ 32)
 plan_told NoPlan v n t = absurd (both_ways false refl t)
-plan_told BySum v n t = (λ e. let z : ◌≡◌ {A = ℕ} 0 1 = cc in omega arith, version_small v n t)
-plan_told ByAll v n t = (λ e. let z : ◌≡◌ {A = ℕ} 0 1 = cc in omega arith, version_small v n t)
+plan_told BySum v n t = (λ e. cc, version_small v n t)
+plan_told ByAll v n t = (λ e. cc, version_small v n t)
 
 -- a refused write hands down nothing
 on_refused : (a : Result WriteAnswer Refusal) (ws : List Write) → is_ok a ≡ false → on_accept a ws ≡ []

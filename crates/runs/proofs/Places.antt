@@ -38,8 +38,8 @@ role_of_slot d s (Data j) = go (data_slot d s j)
 
 pub cases_role : (r q : Role) → (q ≡ r) ⊎ (q ≡ r → ⊥)
 cases_role Parity Parity = inl refl
-cases_role Parity (Data k) = inr (λ e. let z : ◌≡◌ {A = ℕ} 0 1 = cc in omega arith)
-cases_role (Data j) Parity = inr (λ e. let z : ◌≡◌ {A = ℕ} 0 1 = cc in omega arith)
+cases_role Parity (Data k) = inr (λ e. cc)
+cases_role (Data j) Parity = inr (λ e. cc)
 cases_role (Data j) (Data k) = go (cases_eq k j)
   where
     go : (k ≡ j) ⊎ (k ≡ j → ⊥) → (Data k ≡ Data j) ⊎ (Data k ≡ Data j → ⊥)

@@ -14,8 +14,8 @@ Either P = P ⊎ (P → ⊥)
 
 cases_bytes : (xs ys : List ℕ) → Either (xs ≡ ys)
 cases_bytes [] [] = inl refl
-cases_bytes [] (y ∷ ys) = inr (λ e. let z : ◌≡◌ {A = ℕ} 0 1 = cc in omega arith)
-cases_bytes (x ∷ xs) [] = inr (λ e. let z : ◌≡◌ {A = ℕ} 0 1 = cc in omega arith)
+cases_bytes [] (y ∷ ys) = inr (λ e. cc)
+cases_bytes (x ∷ xs) [] = inr (λ e. cc)
 cases_bytes (x ∷ xs) (y ∷ ys) = go (cases_eq x y) (cases_bytes xs ys)
   where
     go : Either (x ≡ y) → Either (xs ≡ ys) → Either (x ∷ xs ≡ y ∷ ys)
@@ -25,8 +25,8 @@ cases_bytes (x ∷ xs) (y ∷ ys) = go (cases_eq x y) (cases_bytes xs ys)
 
 pub cases_cell : (x y : Cell) → Either (x ≡ y)
 cases_cell None None = inl refl
-cases_cell None (Some b) = inr (λ e. let z : ◌≡◌ {A = ℕ} 0 1 = cc in omega arith)
-cases_cell (Some a) None = inr (λ e. let z : ◌≡◌ {A = ℕ} 0 1 = cc in omega arith)
+cases_cell None (Some b) = inr (λ e. cc)
+cases_cell (Some a) None = inr (λ e. cc)
 cases_cell (Some a) (Some b) = go (cases_bytes a b)
   where
     go : Either (a ≡ b) → Either (Some a ≡ Some b)

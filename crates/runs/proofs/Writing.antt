@@ -113,7 +113,7 @@ module _ (E : Setup) (G : InRange E) (C : CodecLaws E) (w : World) (I : Starts E
   apart r q d e = d (one_role E.D s₀ r q e)
 
   no_parity : (k : ℕ) → Data k ≡ Parity → ⊥
-  no_parity k e = let z : ◌≡◌ {A = ℕ} 0 1 = cc in omega arith
+  no_parity k e = cc
 
   module _ (W : Accepted E V σ L p o y (handed E w.shelf w.array (write L p o y fs))) where
     pub a₀ : s₀ < E.S
