@@ -48,7 +48,7 @@ readable_takes E s r x t b e = go (cases_Bool (takes_at t s))
     go (inl h) = h
     go (inr h) =
         let f : Err Blind ≡ Ok b = sym (ap (alone E s r) (cond-false (takes_at t s) x None h)) ∙ e in
-        absurd cc
+        cc
 
 module _ (E : Setup) (G : InRange E) (C : CodecLaws E) (w : World) (I : Starts E w) (O : Orderly E w) (L : ℕ) (p : List ℕ) (o : ℕ)
     (fs : List Finding) (hp : (i : ℕ) → get_or p i 0 < 2 ^ 8) (ho : o < 2 ^ 32)

@@ -118,7 +118,7 @@ in_range_lem E σ c n e = go (cases_Bool (leb c E.D && leb n 65536))
     go (inr t) =
         let f : ◌≡◌ {A = Option Refusal} (Some Place) None
         = sym (cond-false (leb c E.D && leb n 65536) (cond (is_filling (σ c)) None (Some NotAllowed)) (Some Place) t) ∙ e in
-        absurd cc
+        cc
 
 pub rebuild_is_steps : RebuildIsSteps
 unfolding rebuild_end

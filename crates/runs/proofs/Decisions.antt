@@ -28,7 +28,7 @@ count_one : (bs : List Bool) → count_true bs ≡ 1 → (k : ℕ) → get_or bs
 count_one [] e k t = absurd (omega arith)
 count_one (true ∷ bs) e zero t = refl
 count_one (true ∷ bs) e (suc k) t = absurd (both_ways (get_or bs k false) (count_none bs (omega arith) k) t)
-count_one (false ∷ bs) e zero t = absurd (both_ways false refl t)
+count_one (false ∷ bs) e zero t = cc
 count_one (false ∷ bs) e (suc k) t = ap suc (count_one bs (omega arith) k t)
 
 count_two : (bs : List Bool) → 2 ≤ count_true bs

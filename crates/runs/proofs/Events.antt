@@ -18,43 +18,37 @@ use Rattle.runs.specs.Slots.{put_slot, all_in_below, next_state, allowed, event_
 use Rattle.runs.proofs.Goods.{good_takes}
 use Rattle.runs.proofs.Puts.{bytes_seen}
 
-not_some : (x : SlotState) → ◌≡◌ {A = Option SlotState} None (Some x) → ⊥
-not_some x e = cc
-
 -- an event that a state allows leads to what the book notes
 next_is : (all : Bool) (n : ℕ) (t : SlotState) (e : Event) (x : SlotState) → next_state all n t e ≡ Some x → x ≡ event_to e
 next_is all n In Pull x h = go all h
   where
     go : (b : Bool) → cond b (Some Out) None ≡ Some x → x ≡ Out
     go true h = cc
-    go false h = absurd (not_some x h)
-next_is all n In Fit x h = absurd (not_some x h)
-next_is all n In Finish x h = absurd (not_some x h)
-next_is all n In GiveUp x h = absurd (not_some x h)
-next_is all n Out Pull x h = absurd (not_some x h)
+    go false h = cc
+next_is all n In Fit x h = cc
+next_is all n In Finish x h = cc
+next_is all n In GiveUp x h = cc
+next_is all n Out Pull x h = cc
 next_is all n Out Fit x h = cc
-next_is all n Out Finish x h = absurd (not_some x h)
-next_is all n Out GiveUp x h = absurd (not_some x h)
-next_is all n (Filling m) Pull x h = absurd (not_some x h)
-next_is all n (Filling m) Fit x h = absurd (not_some x h)
+next_is all n Out Finish x h = cc
+next_is all n Out GiveUp x h = cc
+next_is all n (Filling m) Pull x h = cc
+next_is all n (Filling m) Fit x h = cc
 next_is all n (Filling m) Finish x h = go (eqb m n) h
   where
     go : (b : Bool) → cond b (Some In) None ≡ Some x → x ≡ In
     go true h = cc
-    go false h = absurd (not_some x h)
+    go false h = cc
 next_is all n (Filling m) GiveUp x h = cc
 
 -- a fit needs a slot that is out
 fit_out : (all : Bool) (n : ℕ) (t : SlotState) (x : SlotState) → next_state all n t Fit ≡ Some x → t ≡ Out
-fit_out all n In x h = absurd (not_some x h)
+fit_out all n In x h = cc
 fit_out all n Out x h = refl
-fit_out all n (Filling m) x h = absurd (not_some x h)
-
-not_ok : {T : Type 0} (r : Refusal) (x : T) → ◌≡◌ {A = Result T Refusal} (Err r) (Ok x) → ⊥
-not_ok r x e = cc
+fit_out all n (Filling m) x h = cc
 
 allowed_is : (y : Option SlotState) (x : SlotState) → allowed y ≡ Ok x → y ≡ Some x
-allowed_is None x e = absurd (not_ok NotAllowed x e)
+allowed_is None x e = cc
 allowed_is (Some z) x e = cc
 
 event_is : (E : Setup) (σ : Slots) (d : ℕ) (e : Event) (x : SlotState) → event_state E σ d e ≡ Ok x
@@ -65,11 +59,11 @@ event_is E σ d e x h = allowed_is (next_state (all_in_below (E.D + 1) σ) E.S (
     go : (b : Bool) → cond b (allowed (next_state (all_in_below (E.D + 1) σ) E.S (σ d) e)) (Err Place) ≡ Ok x
         → allowed (next_state (all_in_below (E.D + 1) σ) E.S (σ d) e) ≡ Ok x
     go true h = h
-    go false h = absurd (not_ok Place x h)
+    go false h = cc
 
 ok_part : {T : Type 0} (y : Result T Refusal) → is_ok y ≡ true → (x : T) × (y ≡ Ok x)
 ok_part (Ok x) t = (x, refl)
-ok_part (Err r) t = absurd (both_ways false refl t)
+ok_part (Err r) t = cc
 
 pub accepted_fit : (E : Setup) (σ : Slots) (d : ℕ) → is_ok (event_state E σ d Fit) ≡ true → σ d ≡ Out
 accepted_fit E σ d t =

@@ -59,7 +59,7 @@ module _ (E : Setup) (C : CodecLaws E) (s : ℕ) (a : s < E.S) (f : ℕ → Rec)
   not_parity j e = cc
 
   not_data : (j k : ℕ) → (k ≡ j → ⊥) → Data k ≡ Data j → ⊥
-  not_data j k d e = let z : k ≡ j = cc in d z
+  not_data j k d e = d (cc)
 
   -- the XOR of all the others, of any part of the blocks
   others_data : (j : ℕ) (g : Verdict → ℕ) (h : Rec → ℕ) → j < E.D → Beside (Data j) → g (V Parity) ≡ xors E.D (λ k. h (R k))
@@ -116,11 +116,11 @@ module _ (E : Setup) (C : CodecLaws E) (s : ℕ) (a : s < E.S) (f : ℕ → Rec)
     where
       go : (x : Decision) → Says E s V x → patch_by E s V x ≡ Some p
           → (r : Role) × (InStripe E r) × (p.slot ≡ slot_of E.D s r) × (p.bytes ≡ block_of E f s r)
-      go Clean y e = absurd cc
+      go Clean y e = cc
       go (Only r) y e =
           let q : p ≡ record { slot = slot_of E.D s r; bytes = mended E s V r } = cc in
           (r, y.inside, ap (λ x. x.slot) q, ap (λ x. x.bytes) q ∙ alone_exact r o y)
-      go TwoBad y e = absurd cc
+      go TwoBad y e = cc
 
   -- what a read obtains
   module _ (j : ℕ) (l : j < E.D) (o : Sorted E s f V) where

@@ -108,7 +108,7 @@ seen_bytes x t s b e = go (cases_Bool (takes_at t s))
     go (inl h) = (h, sym (cond-true (takes_at t s) x None h) ∙ e)
     go (inr h) =
         let f : None ≡ Some b = sym (cond-false (takes_at t s) x None h) ∙ e in
-        absurd cc
+        cc
 
 pub bytes_seen : (x : Cell) (t : SlotState) (s : ℕ) (b : List ℕ) → takes_at t s ≡ true → x ≡ Some b → seen_at x t s ≡ Some b
 bytes_seen x t s b h e = cond-true (takes_at t s) x None h ∙ e

@@ -57,7 +57,7 @@ module _ (E : Setup) (C : CodecLaws E) (s : ℕ) (a : s < E.S) (f : ℕ → Rec)
 
   swift_quick : (y : Way) (j : ℕ) → swift y V j ≡ true → quick (V (Data j)) (V Parity) j ≡ true
   swift_quick Subtractive j t = t
-  swift_quick Additive j t = absurd (both_ways false refl t)
+  swift_quick Additive j t = cc
 
   module _ (j : ℕ) (l : j < E.D) (o : Sorted E s f V) where
     abbrev Others : Type 0
@@ -70,7 +70,7 @@ module _ (E : Setup) (C : CodecLaws E) (s : ℕ) (a : s < E.S) (f : ℕ → Rec)
     Sound ByAll = Others
 
     not_data : (k : ℕ) → (k ≡ j → ⊥) → Data k ≡ Data j → ⊥
-    not_data k d e = let z : k ≡ j = cc in d z
+    not_data k d e = d (cc)
 
     touched_plan : bad Parity ≡ false → (t : Bool) → touched E.D V j ≡ t → (x : Decision) → Says E s V x → Sound (plan_for t x)
     touched_plan q t e Clean y = λ k m d. clear_fine E C s a f F V (Data k) m o (y (Data k) m)

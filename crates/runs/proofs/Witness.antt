@@ -347,8 +347,8 @@ module _ (mark : ℕ) (sum : List ℕ → ℕ) (hm : mark < 2 ^ 8) (hs : SumLaw 
               → FailedWrite E w₁.shelf (handed E w₁.shelf w₁.array k₁) 0
           go (inl x) = x
           go (inr (inl x)) = absurd x
-          go (inr (inr (x, inl e))) = absurd cc
-          go (inr (inr (x, inr e))) = absurd cc
+          go (inr (inr (x, inl e))) = cc
+          go (inr (inr (x, inr e))) = cc
 
       witness : Witness E m p o f b fs
       witness = record {

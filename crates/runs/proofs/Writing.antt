@@ -163,7 +163,7 @@ module _ (E : Setup) (G : InRange E) (C : CodecLaws E) (w : World) (I : Starts E
             subst (λ z. Good E w s₀ (Data z) → Puts s₀ (Data z)) (sym e)
             (λ h. put_data (Some (block_of E B.records s₀ (Data j₀))) (good_takes_in E w I s₀ (Data j₀) h)) g
         go (inr d) =
-            both_other s₀ (Data k) (λ e _. apart (Data k) (Data j₀) (λ z. let q : k ≡ j₀ = cc in d q) e)
+            both_other s₀ (Data k) (λ e _. apart (Data k) (Data j₀) (λ z. d (cc)) e)
             (λ e _. apart (Data k) Parity (no_parity k) e) (ap (data_of E s₀ k) (sym (old_rec k d)))
 
     put_any : (s : ℕ) (r : Role) → InStripe E r → Good E w s r → (s ≡ s₀) ⊎ (s ≡ s₀ → ⊥) → Puts s r
