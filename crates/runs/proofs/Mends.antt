@@ -55,18 +55,12 @@ module _ (E : Setup) (C : CodecLaws E) (s : ℕ) (a : s < E.S) (f : ℕ → Rec)
   abbrev pub Beside : Role → Type 0
   Beside r = (q : Role) → InStripe E q → (q ≡ r → ⊥) → Ok q
 
-  not_parity : (j : ℕ) → Parity ≡ Data j → ⊥
-  not_parity j e = cc
-
-  not_data : (j k : ℕ) → (k ≡ j → ⊥) → Data k ≡ Data j → ⊥
-  not_data j k d e = d (cc)
-
   -- the XOR of all the others, of any part of the blocks
   others_data : (j : ℕ) (g : Verdict → ℕ) (h : Rec → ℕ) → j < E.D → Beside (Data j) → g (V Parity) ≡ xors E.D (λ k. h (R k))
       → ((k : ℕ) → k < E.D → Ok (Data k) → g (V (Data k)) ≡ h (R k)) → others E.D V (Data j) g ≡ h (R j)
   unfolding others
   others_data j g h l b p d =
-      ap₂ bit_xor p (at_ext E.D (λ k. g (V (Data k))) (λ k. h (R k)) j 0 (λ k n x. d k n (b (Data k) n (not_data j k x))))
+      ap₂ bit_xor p (at_ext E.D (λ k. g (V (Data k))) (λ k. h (R k)) j 0 (λ k n x. d k n (b (Data k) n (λ e. x cc))))
       ∙ xors_others E.D (λ k. h (R k)) j l
 
   others_parity : (g : Verdict → ℕ) (h : Rec → ℕ) → Beside Parity → ((k : ℕ) → k < E.D → Ok (Data k) → g (V (Data k)) ≡ h (R k))
@@ -75,7 +69,7 @@ module _ (E : Setup) (C : CodecLaws E) (s : ℕ) (a : s < E.S) (f : ℕ → Rec)
   others_parity g h b d =
       xor_zero_l (xors E.D (at (λ k. g (V (Data k))) E.D 0))
       ∙ (at_beyond E.D (λ k. g (V (Data k))) 0
-      ∙ xors_ext E.D (λ k. g (V (Data k))) (λ k. h (R k)) (λ k l. d k l (b (Data k) l (λ e. not_parity k (sym e)))))
+      ∙ xors_ext E.D (λ k. g (V (Data k))) (λ k. h (R k)) (λ k l. d k l (b (Data k) l (λ e. cc))))
 
   pub mend_exact : (r : Role) → InStripe E r → Beside r → mended E s V r ≡ block_of E f s r
   unfolding mended data_of parity_of parity_with others_row mended_versions
@@ -84,9 +78,9 @@ module _ (E : Setup) (C : CodecLaws E) (s : ℕ) (a : s < E.S) (f : ℕ → Rec)
       (others E.D V Parity owner_in) (xors E.D (λ k. (R k).owner)) (λ k. version_in (V (Data k)) 0) (λ k. (R k).version)
       (λ n m. others_parity (λ v. byte_in v n) (λ r. get_or r.payload n 0) b (λ k l. byte_data E C s a f F V k n l m))
       (others_parity owner_in (λ r. r.owner) b (own_data E C s a f F V))
-      (λ k l. vers_data E C s a f F V k l (b (Data k) l (λ e. not_parity k (sym e))))
+      (λ k l. vers_data E C s a f F V k l (b (Data k) l (λ e. cc)))
   mend_exact (Data j) i b =
-      let p : Ok Parity = b Parity tt (not_parity j) in
+      let p : Ok Parity = b Parity tt (λ e. cc) in
       data_ext E s j (table 80 (λ n. others E.D V (Data j) (λ v. byte_in v n))) (R j).payload
       (others E.D V (Data j) owner_in) (R j).owner (version_in (V Parity) j) (R j).version
       (table_ext 80 (λ n. others E.D V (Data j) (λ v. byte_in v n)) (λ n. get_or (R j).payload n 0)

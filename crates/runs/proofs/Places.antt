@@ -44,7 +44,7 @@ cases_role (Data j) (Data k) = go (cases_eq k j)
   where
     go : (k ≡ j) ⊎ (k ≡ j → ⊥) → (Data k ≡ Data j) ⊎ (Data k ≡ Data j → ⊥)
     go (inl e) = inl (ap Data e)
-    go (inr d) = inr (λ e. d (cc))
+    go (inr d) = inr (λ e. d cc)
 
 -- different blocks of a stripe lie in different slots
 pub one_role : (d s : ℕ) (r q : Role) → slot_of d s r ≡ slot_of d s q → r ≡ q

@@ -102,13 +102,11 @@ same_when false w c s b h = refl
 
 -- what is seen of a place
 pub seen_bytes : (x : Cell) (t : SlotState) (s : ℕ) (b : List ℕ) → seen_at x t s ≡ Some b → (takes_at t s ≡ true) × (x ≡ Some b)
-seen_bytes x t s b e = go (cases_Bool (takes_at t s))
+seen_bytes x t s b e = go (takes_at t s) e
   where
-    go : (takes_at t s ≡ true) ⊎ (takes_at t s ≡ false) → (takes_at t s ≡ true) × (x ≡ Some b)
-    go (inl h) = (h, sym (cond-true (takes_at t s) x None h) ∙ e)
-    go (inr h) =
-        let f : None ≡ Some b = sym (cond-false (takes_at t s) x None h) ∙ e in
-        cc
+    go : (y : Bool) → cond y x None ≡ Some b → (y ≡ true) × (x ≡ Some b)
+    go true h = (refl, h)
+    go false h = cc
 
 pub bytes_seen : (x : Cell) (t : SlotState) (s : ℕ) (b : List ℕ) → takes_at t s ≡ true → x ≡ Some b → seen_at x t s ≡ Some b
 bytes_seen x t s b h e = cond-true (takes_at t s) x None h ∙ e

@@ -54,7 +54,7 @@ use Rattle.runs.proofs.Places.{role_of_slot, slot_in}
 use Rattle.runs.proofs.Puts.{Did, expected, expected_++, named, named_not, named_yes}
 use Rattle.runs.proofs.Renews.{new_data_lem}
 use Rattle.runs.proofs.RunLaw.{blank_fits, lasts}
-use Rattle.runs.proofs.Worlds.{view_in, fine_good, poor_bad, stripe_lt, good_clear}
+use Rattle.runs.proofs.Worlds.{view_in, fine_good, poor_bad, fine_or_poor, stripe_lt, good_clear}
 use Rattle.runs.proofs.Writing.{f', B', l₀, a₀, O₀, new_rec, parity_good, write_fits, write_stays}
 
 -- A plain memory that holds a formatted array: each place holds what was last written to it.
@@ -132,12 +132,7 @@ orderly_beside E C w I p h = record { each = each; apart = apart }
     each s (Data j) a i = h s j a i
 
     sorts : (s : ℕ) → s < E.S → Sorted E s w.book.records (view_in E w s)
-    sorts s a = good_parity (fine_good E C w I s Parity a tt (p s a)) (λ j l. go j l (h s j a l))
-      where
-        go : (j : ℕ) → j < E.D → Good E w s (Data j) ⊎ Bad E w s (Data j)
-            → Fine E s w.book.records (view_in E w s) (Data j) ⊎ Poor E s w.book.records (view_in E w s) (Data j)
-        go j l (inl x) = inl (fine_good E C w I s (Data j) a l x)
-        go j l (inr x) = inr (poor_bad E C w I s (Data j) l x)
+    sorts s a = good_parity (fine_good E C w I s Parity a tt (p s a)) (λ j l. fine_or_poor E C w I s (Data j) a l (h s j a l))
 
     apart : (s j : ℕ) → s < E.S → j < E.D → Bad E w s Parity → Bad E w s (Data j) → ⊥
     apart s j a l b _ =

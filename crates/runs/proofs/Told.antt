@@ -20,8 +20,8 @@ cases_bytes (x ∷ xs) (y ∷ ys) = go (cases_eq x y) (cases_bytes xs ys)
   where
     go : Either (x ≡ y) → Either (xs ≡ ys) → Either (x ∷ xs ≡ y ∷ ys)
     go (inl a) (inl b) = inl (ap₂ ◌∷◌ a b)
-    go (inl a) (inr b) = inr (λ e. b (cc))
-    go (inr a) o = inr (λ e. a (cc))
+    go (inl a) (inr b) = inr (λ e. b cc)
+    go (inr a) o = inr (λ e. a cc)
 
 pub cases_cell : (x y : Cell) → Either (x ≡ y)
 cases_cell None None = inl refl
@@ -31,7 +31,7 @@ cases_cell (Some a) (Some b) = go (cases_bytes a b)
   where
     go : Either (a ≡ b) → Either (Some a ≡ Some b)
     go (inl e) = inl (ap Some e)
-    go (inr d) = inr (λ e. d (cc))
+    go (inr d) = inr (λ e. d cc)
 
 cases_below : (P : ℕ → Type 0) → ((i : ℕ) → Either (P i)) → (n : ℕ) → Either ((i : ℕ) → i < n → P i)
 cases_below P h zero = inl (λ i l. absurd (omega arith))

@@ -198,9 +198,8 @@ module _ (mark : ℕ) (sum : List ℕ → ℕ) (hm : mark < 2 ^ 8) (hs : SumLaw 
           never : Good E w 0 (Data 0) ⊎ OnlyBad E w 0 (Data 0) → ⊥
           never (inl g) = not_good g
           never (inr g) =
-              let y : Good₁ k = g.others (Data 1) (omega arith) (λ z. let u : ◌≡◌ {A = ℕ} 0 1 = cc in omega arith) in
-              let z : ◌≡◌ {A = ℕ} 0 1 = cc in
-              omega arith
+              let y : Good₁ k = g.others (Data 1) (omega arith) (λ z. cc) in
+              cc
 
     -- from a world after the write: the read with the switch off, and card 1 turned blind
     record After (w₀ w : World) : Type 0 where
