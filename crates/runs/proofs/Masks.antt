@@ -1,6 +1,6 @@
 -- Where no stripe has bad parity beside bad data, the mask is exactly the set of bad blocks.
 use Rattle.std.proofs.Common.{◌≡◌, ℕ, zero, suc, ◌<◌, Bool, true, false, ◌||◌, ◌⊎◌, List, refl, ap, ◌∙◌, ap₂, inl, inr, arith}
-use Rattle.std.proofs.lemmas.Bool.{ne_eqb, lt-ltb, le-ltb, cases_eq, cases_Bool, or_from, or_left, or_right, both_ways}
+use Rattle.std.proofs.lemmas.Bool.{ne_eqb, lt-ltb, le-ltb, cases_eq, false_from_ne_true, or_from, or_left, or_right, both_ways}
 use Rattle.block.specs.declared.shapes.Role.{Role}
 use Rattle.block.specs.declared.shapes.Role.TheVariants.{Parity, Data}
 use Rattle.block.specs.Judging.{Setup}
@@ -150,8 +150,6 @@ module _ (E : Setup) (C : CodecLaws E) (s : ℕ) (a : s < E.S) (f : ℕ → Rec)
 
   -- where a data block is in the mask, the quick path is not taken
   pub set_slow : (j : ℕ) → j < E.D → Sorted E s f V → bad (Data j) ≡ true → quick (V (Data j)) (V Parity) j ≡ false
-  set_slow j l o z = go (cases_Bool (quick (V (Data j)) (V Parity) j))
-    where
-      go : (quick (V (Data j)) (V Parity) j ≡ true) ⊎ (quick (V (Data j)) (V Parity) j ≡ false) → quick (V (Data j)) (V Parity) j ≡ false
-      go (inl t) = absurd (both_ways (bad (Data j)) (fine_clear (Data j) l o (swift_fine j l o t)) z)
-      go (inr t) = t
+  set_slow j l o z =
+      false_from_ne_true (quick (V (Data j)) (V Parity) j)
+      (λ t. both_ways (bad (Data j)) (fine_clear (Data j) l o (swift_fine j l o t)) z)

@@ -1,7 +1,7 @@
 -- What is mended or given is exactly the block of the records.
 use Rattle.std.proofs.Common.{◌≡◌, ℕ, ◌+◌, ◌*◌, ◌<◌, ◌≤◌, Bool, true, false, cond, ltb, ◌⊎◌, List, get_or, Some, sym, refl, ap, ◌∙◌, subst, ap₂, inl, inr, arith}
 use lib.Bits.{bit_xor, xor_zero_l}
-use Rattle.std.proofs.lemmas.Bool.{le-ltb, cases_lt, cases_Bool, cond-true, cond-false}
+use Rattle.std.proofs.lemmas.Bool.{le-ltb, cases_lt, cases_Bool, false_from_ne_true, cond-true, cond-false}
 use Rattle.block.specs.declared.shapes.Role.{Role}
 use Rattle.block.specs.declared.shapes.Role.TheVariants.{Parity, Data}
 use Rattle.block.specs.Shapes.{Verdict}
@@ -71,7 +71,7 @@ module _ (E : Setup) (C : CodecLaws E) (s : ℕ) (a : s < E.S) (f : ℕ → Rec)
       ∙ (at_beyond E.D (λ k. g (V (Data k))) 0
       ∙ xors_ext E.D (λ k. g (V (Data k))) (λ k. h (R k)) (λ k l. d k l (b (Data k) l (λ e. cc))))
 
-  pub mend_exact : (r : Role) → InStripe E r → Beside r → mended E s V r ≡ block_of E f s r
+  mend_exact : (r : Role) → InStripe E r → Beside r → mended E s V r ≡ block_of E f s r
   unfolding mended data_of parity_of parity_with others_row mended_versions
   mend_exact Parity i b =
       parity_ext E s (λ n. others E.D V Parity (λ v. byte_in v n)) (λ n. xors E.D (λ k. get_or (R k).payload n 0))
@@ -93,11 +93,8 @@ module _ (E : Setup) (C : CodecLaws E) (s : ℕ) (a : s < E.S) (f : ℕ → Rec)
 
   -- a block alone in the mask: every other is good
   pub alone_beside : (r : Role) → Sorted E s f V → Alone E s V r → Beside r
-  alone_beside r o x q i d = clear_fine E C s a f F V q i o (go (cases_Bool (bad_role E.D V q)))
-    where
-      go : (bad_role E.D V q ≡ true) ⊎ (bad_role E.D V q ≡ false) → bad_role E.D V q ≡ false
-      go (inl t) = absurd (d (x.others q i t))
-      go (inr t) = t
+  alone_beside r o x q i d =
+      clear_fine E C s a f F V q i o (false_from_ne_true (bad_role E.D V q) (λ t. d (x.others q i t)))
 
   pub alone_exact : (r : Role) → Sorted E s f V → Alone E s V r → mended E s V r ≡ block_of E f s r
   alone_exact r o x = mend_exact r x.inside (alone_beside r o x)
