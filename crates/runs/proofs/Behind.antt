@@ -1,6 +1,6 @@
 -- Parity that is behind at another index stays behind there after a write that took the quick path.
 use Rattle.std.specs.Prelude.{Some, None, Ok, Err}
-use Rattle.std.proofs.Common.{◌≡◌, ℕ, suc, ◌+◌, ◌*◌, ◌/◌, ◌%◌, ◌^◌, ◌<◌, ◌≤◌, true, false, cond, ltb, ◌⊎◌, List, [], get_or, sym, refl, ap, ◌∙◌, subst, ap₂, inl, inr, arith, pow_pos}
+use Rattle.std.proofs.Common.{◌≡◌, ℕ, suc, ◌+◌, ◌*◌, ◌/◌, ◌%◌, ◌^◌, ◌<◌, ◌≤◌, Bool, true, false, cond, ltb, ◌⊎◌, List, [], get_or, sym, refl, ap, ◌∙◌, subst, ap₂, inl, inr, arith, pow_pos}
 use lib.Bits.{bit_xor, xor_lt}
 use Rattle.std.proofs.lemmas.Bool.{lt-ltb, ltb-true, cases_eq, cases_Bool, cond-true, cond-false}
 use Rattle.block.specs.Shapes.{Cell, Verdict}
@@ -42,13 +42,11 @@ word_small b n h = omega (arith, h n, h (n + 1), h (n + 2), h (n + 3))
 -- a readable block is seen
 readable_takes : (E : Setup) (s : ℕ) (r : Role) (x : Cell) (t : SlotState) (b : List ℕ) → alone E s r (seen_at x t s) ≡ Ok b
     → takes_at t s ≡ true
-readable_takes E s r x t b e = go (cases_Bool (takes_at t s))
+readable_takes E s r x t b e = go (takes_at t s) e
   where
-    go : (takes_at t s ≡ true) ⊎ (takes_at t s ≡ false) → takes_at t s ≡ true
-    go (inl h) = h
-    go (inr h) =
-        let f : Err Blind ≡ Ok b = sym (ap (alone E s r) (cond-false (takes_at t s) x None h)) ∙ e in
-        let z : ◌≡◌ {A = ℕ} 0 1 = cc in absurd (omega arith)
+    go : (y : Bool) → alone E s r (cond y x None) ≡ Ok b → y ≡ true
+    go true h = refl
+    go false h = cc
 
 module _ (E : Setup) (G : InRange E) (C : CodecLaws E) (w : World) (I : Starts E w) (O : Orderly E w) (L : ℕ) (p : List ℕ) (o : ℕ)
     (fs : List Finding) (hp : (i : ℕ) → get_or p i 0 < 2 ^ 8) (ho : o < 2 ^ 32)

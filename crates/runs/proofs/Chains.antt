@@ -28,6 +28,7 @@ use Rattle.runs.specs.Slots.{
   unless,
   rebuild_end,
 }
+use Rattle.runs.proofs.Events.{put_idle}
 
 -- a scrub under way and a world agree
 scrub_steps : (E : Setup) (w : World) (n : ℕ) (fs : List Finding)
@@ -58,14 +59,6 @@ scrub_is_steps E w n fs l =
     (scrub_start w.shelf w.array.cursor fs) (le-leb n 65536 l)))
     (scrub_steps E w n fs)
 
--- a slot put as it is
-put_idle : (σ : Slots) (c : ℕ) (x : SlotState) → σ c ≡ x → put_slot σ c x ≡ σ
-put_idle σ c x e = fun_ext (λ k. go k (cases_eq k c))
-  where
-    go : (k : ℕ) → (k ≡ c) ⊎ (k ≡ c → ⊥) → cond (eqb k c) x (σ k) ≡ σ k
-    go k (inl d) = cond-true (eqb k c) x (σ k) (eq-eqb k c d) ∙ (sym e ∙ ap σ (sym d))
-    go k (inr d) = cond-false (eqb k c) x (σ k) (ne_eqb k c d)
-
 -- one stripe of a rebuild
 module _ (E : Setup) (c : ℕ) where
   -- the next stripe of a rebuild under way is such a step
@@ -78,15 +71,15 @@ module _ (E : Setup) (c : ℕ) where
       go : (t : SlotState) → x.slots c ≡ t
           → ((refill_by E c t x).conduct ≡ after_all x.conduct (refill_writes E (x.conduct []) x.slots c t))
           × ((refill_by E c t x).slots ≡ put_slot x.slots c (refilled E.S t))
-      go In e = (refl, sym (put_idle x.slots c In e))
-      go Out e = (refl, sym (put_idle x.slots c Out e))
+      go In e = (refl, sym (fun_ext (put_idle x.slots c In e)))
+      go Out e = (refl, sym (fun_ext (put_idle x.slots c Out e)))
       go (Filling n) e = one (ltb n E.S)
         where
           one : (b : Bool)
               → ((cond b (refill E c n x) x).conduct ≡ after_all x.conduct (cond b (rebuild_writes E (x.conduct []) x.slots n c) []))
               × ((cond b (refill E c n x) x).slots ≡ put_slot x.slots c (cond b (Filling (suc n)) (Filling n)))
           one true = (refl, refl)
-          one false = (refl, sym (put_idle x.slots c (Filling n) e))
+          one false = (refl, sym (fun_ext (put_idle x.slots c (Filling n) e)))
 
   module _ (w : World) (l : leb c E.D ≡ true) where
     rebuild_steps : (n : ℕ) → RebuiltBySteps E w c n (refills E c n (rebuild_start w.shelf w.array.slots))
@@ -111,14 +104,12 @@ module _ (E : Setup) (c : ℕ) where
 
 in_range_lem : (E : Setup) (σ : Slots) (c n : ℕ) → rebuild_refused E σ c n ≡ None → leb c E.D ≡ true
 unfolding rebuild_refused
-in_range_lem E σ c n e = go (cases_Bool (leb c E.D && leb n 65536))
+in_range_lem E σ c n e = go (leb c E.D) e
   where
-    go : ((leb c E.D && leb n 65536) ≡ true) ⊎ ((leb c E.D && leb n 65536) ≡ false) → leb c E.D ≡ true
-    go (inl t) = (and_parts (leb c E.D) (leb n 65536) t).0
-    go (inr t) =
-        let f : ◌≡◌ {A = Option Refusal} (Some Place) None
-        = sym (cond-false (leb c E.D && leb n 65536) (cond (is_filling (σ c)) None (Some NotAllowed)) (Some Place) t) ∙ e in
-        let z : ◌≡◌ {A = ℕ} 0 1 = cc in absurd (omega arith)
+    go : (b : Bool) → ◌≡◌ {A = Option Refusal} (cond (b && leb n 65536) (cond (is_filling (σ c)) None (Some NotAllowed)) (Some Place)) None
+        → b ≡ true
+    go true h = refl
+    go false h = cc
 
 pub rebuild_is_steps : RebuildIsSteps
 unfolding rebuild_end

@@ -28,7 +28,7 @@ count_one : (bs : List Bool) → count_true bs ≡ 1 → (k : ℕ) → get_or bs
 count_one [] e k t = absurd (omega arith)
 count_one (true ∷ bs) e zero t = refl
 count_one (true ∷ bs) e (suc k) t = absurd (both_ways (get_or bs k false) (count_none bs (omega arith) k) t)
-count_one (false ∷ bs) e zero t = absurd (both_ways false refl t)
+count_one (false ∷ bs) e zero t = cc
 count_one (false ∷ bs) e (suc k) t = ap suc (count_one bs (omega arith) k t)
 
 count_two : (bs : List Bool) → 2 ≤ count_true bs
@@ -132,13 +132,3 @@ module _ (E : Setup) (s : ℕ) (V : View) where
       go (Only q) y = ap Only (a.others q y.inside y.itself)
       go Lost y =
           absurd (y.apart (a.others y.one y.one_in y.one_bad ∙ sym (a.others y.other y.other_in y.other_bad)))
-
-  -- two blocks are bad
-  pub is_lost : Several → decision E.D s V ≡ Lost
-  is_lost a = go (decision E.D s V) says
-    where
-      go : (x : Decision) → Says x → x ≡ Lost
-      go Clean y = absurd (both_ways (bad_role E.D V a.one) (y a.one a.one_in) a.one_bad)
-      go (Only q) y =
-          absurd (a.apart (y.others a.one a.one_in a.one_bad ∙ sym (y.others a.other a.other_in a.other_bad)))
-      go Lost y = refl

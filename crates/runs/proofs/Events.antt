@@ -1,6 +1,7 @@
 -- Slot events and rebuilds: the array's slots stay the book's, and what was seen is still seen unless a card is taken out.
 use Rattle.std.proofs.Common.{◌≡◌, ℕ, suc, ◌+◌, ◌<◌, Bool, true, false, cond, ◌&&◌, eqb, ltb, leb, ◌⊎◌, [], Some, None, Ok, Err, Option, Result, sym, refl, ap, ◌∙◌, ap₂, inl, inr, arith}
 use Rattle.std.proofs.lemmas.Bool.{eq-eqb, ne_eqb, lt-ltb, ltb-true, cases_eq, cond-true, cond-false, both_ways}
+use Rattle.std.proofs.lemmas.Option.{cond_some}
 use Rattle.block.specs.declared.refusal.Refusal.{Refusal}
 use Rattle.block.specs.declared.refusal.Refusal.TheVariants.{Place, SlotState as NotAllowed}
 use Rattle.block.specs.declared.shapes.Role.{Role}
@@ -18,43 +19,29 @@ use Rattle.runs.specs.Slots.{put_slot, all_in_below, next_state, allowed, event_
 use Rattle.runs.proofs.Goods.{good_takes}
 use Rattle.runs.proofs.Puts.{bytes_seen}
 
-not_some : (x : SlotState) → ◌≡◌ {A = Option SlotState} None (Some x) → ⊥
-not_some x e = let z : ◌≡◌ {A = ℕ} 0 1 = cc in omega arith
-
 -- an event that a state allows leads to what the book notes
 next_is : (all : Bool) (n : ℕ) (t : SlotState) (e : Event) (x : SlotState) → next_state all n t e ≡ Some x → x ≡ event_to e
-next_is all n In Pull x h = go all h
-  where
-    go : (b : Bool) → cond b (Some Out) None ≡ Some x → x ≡ Out
-    go true h = cc
-    go false h = absurd (not_some x h)
-next_is all n In Fit x h = absurd (not_some x h)
-next_is all n In Finish x h = absurd (not_some x h)
-next_is all n In GiveUp x h = absurd (not_some x h)
-next_is all n Out Pull x h = absurd (not_some x h)
+next_is all n In Pull x h = sym (cond_some all Out x h).1
+next_is all n In Fit x h = cc
+next_is all n In Finish x h = cc
+next_is all n In GiveUp x h = cc
+next_is all n Out Pull x h = cc
 next_is all n Out Fit x h = cc
-next_is all n Out Finish x h = absurd (not_some x h)
-next_is all n Out GiveUp x h = absurd (not_some x h)
-next_is all n (Filling m) Pull x h = absurd (not_some x h)
-next_is all n (Filling m) Fit x h = absurd (not_some x h)
-next_is all n (Filling m) Finish x h = go (eqb m n) h
-  where
-    go : (b : Bool) → cond b (Some In) None ≡ Some x → x ≡ In
-    go true h = cc
-    go false h = absurd (not_some x h)
+next_is all n Out Finish x h = cc
+next_is all n Out GiveUp x h = cc
+next_is all n (Filling m) Pull x h = cc
+next_is all n (Filling m) Fit x h = cc
+next_is all n (Filling m) Finish x h = sym (cond_some (eqb m n) In x h).1
 next_is all n (Filling m) GiveUp x h = cc
 
 -- a fit needs a slot that is out
 fit_out : (all : Bool) (n : ℕ) (t : SlotState) (x : SlotState) → next_state all n t Fit ≡ Some x → t ≡ Out
-fit_out all n In x h = absurd (not_some x h)
+fit_out all n In x h = cc
 fit_out all n Out x h = refl
-fit_out all n (Filling m) x h = absurd (not_some x h)
-
-not_ok : {T : Type 0} (r : Refusal) (x : T) → ◌≡◌ {A = Result T Refusal} (Err r) (Ok x) → ⊥
-not_ok r x e = let z : ◌≡◌ {A = ℕ} 0 1 = cc in omega arith
+fit_out all n (Filling m) x h = cc
 
 allowed_is : (y : Option SlotState) (x : SlotState) → allowed y ≡ Ok x → y ≡ Some x
-allowed_is None x e = absurd (not_ok NotAllowed x e)
+allowed_is None x e = cc
 allowed_is (Some z) x e = cc
 
 event_is : (E : Setup) (σ : Slots) (d : ℕ) (e : Event) (x : SlotState) → event_state E σ d e ≡ Ok x
@@ -65,11 +52,11 @@ event_is E σ d e x h = allowed_is (next_state (all_in_below (E.D + 1) σ) E.S (
     go : (b : Bool) → cond b (allowed (next_state (all_in_below (E.D + 1) σ) E.S (σ d) e)) (Err Place) ≡ Ok x
         → allowed (next_state (all_in_below (E.D + 1) σ) E.S (σ d) e) ≡ Ok x
     go true h = h
-    go false h = absurd (not_ok Place x h)
+    go false h = cc
 
 ok_part : {T : Type 0} (y : Result T Refusal) → is_ok y ≡ true → (x : T) × (y ≡ Ok x)
 ok_part (Ok x) t = (x, refl)
-ok_part (Err r) t = absurd (both_ways false refl t)
+ok_part (Err r) t = cc
 
 pub accepted_fit : (E : Setup) (σ : Slots) (d : ℕ) → is_ok (event_state E σ d Fit) ≡ true → σ d ≡ Out
 accepted_fit E σ d t =
@@ -99,6 +86,14 @@ rebuild_refused_lem E σ d = go (leb d E.D)
     go true = refl
     go false = refl
 
+-- a slot put as it is
+pub put_idle : (σ : Slots) (d : ℕ) (x : SlotState) → σ d ≡ x → (c : ℕ) → put_slot σ d x c ≡ σ c
+put_idle σ d x e c = go (cases_eq c d)
+  where
+    go : (c ≡ d) ⊎ (c ≡ d → ⊥) → cond (eqb c d) x (σ c) ≡ σ c
+    go (inl z) = cond-true (eqb c d) x (σ c) (eq-eqb c d z) ∙ (sym e ∙ ap σ (sym z))
+    go (inr z) = cond-false (eqb c d) x (σ c) (ne_eqb c d z)
+
 pub rebuild_same : (E : Setup) (σ : Slots) (B : Book) → ((c : ℕ) → σ c ≡ B.slots c) → (d c : ℕ)
     → cond (leb d E.D) (put_slot σ d (refilled E.S (σ d))) σ c
     ≡ (cond {A = Book} (is_none (rebuild_refused E σ d 1)) (note_slot B d (refilled E.S (B.slots d))) B).slots c
@@ -106,20 +101,13 @@ rebuild_same E σ B h d c =
     go (leb d E.D) (σ d) refl
     ∙ ap (λ z. (cond {A = Book} (is_none z) (note_slot B d (refilled E.S (B.slots d))) B).slots c) (sym (rebuild_refused_lem E σ d))
   where
-    idle : (x : SlotState) → σ d ≡ x → cond (eqb c d) x (σ c) ≡ B.slots c
-    idle x e = one (cases_eq c d)
-      where
-        one : (c ≡ d) ⊎ (c ≡ d → ⊥) → cond (eqb c d) x (σ c) ≡ B.slots c
-        one (inl z) = cond-true (eqb c d) x (σ c) (eq-eqb c d z) ∙ (sym e ∙ (ap σ (sym z) ∙ h c))
-        one (inr z) = cond-false (eqb c d) x (σ c) (ne_eqb c d z) ∙ h c
-
     go : (b : Bool) (x : SlotState) → σ d ≡ x
         → cond b (put_slot σ d (refilled E.S x)) σ c
         ≡ (cond {A = Book} (is_none (cond b (cond (is_filling x) None (Some NotAllowed)) (Some Place)))
         (note_slot B d (refilled E.S (B.slots d))) B).slots c
     go false x e = h c
-    go true In e = idle In e
-    go true Out e = idle Out e
+    go true In e = put_idle σ d In e c ∙ h c
+    go true Out e = put_idle σ d Out e c ∙ h c
     go true (Filling n) e = ap₂ (λ a b. cond (eqb c d) a b) (ap (refilled E.S) (sym e ∙ h d)) (h c)
 
 -- a slot refilled by one more stripe takes what it took

@@ -164,10 +164,10 @@ module _ (E : Setup) (G : InRange E) (C : CodecLaws E) (w : World) (I : Starts E
           go : (swift y V j ≡ true) ⊎ (swift y V j ≡ false) → ⊥
           go (inl t) =
               let f : BySum ≡ NoPlan = sym (cond-true (swift y V j) BySum (plan_of E.D s V j) t) ∙ e in
-              let z : ◌≡◌ {A = ℕ} 0 1 = cc in omega arith
+              cc
           go (inr t) =
               let f : ByAll ≡ NoPlan = sym clean ∙ (sym (cond-false (swift y V j) BySum (plan_of E.D s V j) t) ∙ e) in
-              let z : ◌≡◌ {A = ℕ} 0 1 = cc in omega arith
+              cc
 
       made : (y : Way) → (parity_write E s V j y p o).bytes ≡ parity_of E s (put_rec R j new)
       made y =

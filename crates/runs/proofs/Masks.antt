@@ -1,6 +1,6 @@
 -- Where no stripe has bad parity beside bad data, the mask is exactly the set of bad blocks.
 use Rattle.std.proofs.Common.{◌≡◌, ℕ, zero, suc, ◌<◌, Bool, true, false, ◌||◌, ◌⊎◌, List, refl, ap, ◌∙◌, ap₂, inl, inr, arith}
-use Rattle.std.proofs.lemmas.Bool.{ne_eqb, lt-ltb, le-ltb, cases_eq, cases_Bool, or_from, or_left, or_right, both_ways}
+use Rattle.std.proofs.lemmas.Bool.{ne_eqb, lt-ltb, le-ltb, cases_eq, false_from_ne_true, or_from, or_left, or_right, both_ways}
 use Rattle.block.specs.declared.shapes.Role.{Role}
 use Rattle.block.specs.declared.shapes.Role.TheVariants.{Parity, Data}
 use Rattle.block.specs.Judging.{Setup}
@@ -107,7 +107,7 @@ module _ (E : Setup) (C : CodecLaws E) (s : ℕ) (a : s < E.S) (f : ℕ → Rec)
   poor_set Parity i (good_parity p h) d = absurd (never p d)
     where
       never : Ok Parity → No Parity → ⊥
-      never p (unfit c e) = let z : ◌≡◌ {A = ℕ} 0 1 = cc in omega arith
+      never p (unfit c e) = cc
       never p (behind b e v) =
           let z : b ≡ parity_of E s R = cc in
           omega (arith, v.1.2, ver_parity E C s a f F v.1.0 v.1.1, ap (λ x. version_of x v.1.0) z)
@@ -116,7 +116,7 @@ module _ (E : Setup) (C : CodecLaws E) (s : ℕ) (a : s < E.S) (f : ℕ → Rec)
   poor_set (Data j) i (bad_parity p h) d = absurd (never (h j i) d)
     where
       never : Ok (Data j) → No (Data j) → ⊥
-      never p (unfit c e) = let z : ◌≡◌ {A = ℕ} 0 1 = cc in omega arith
+      never p (unfit c e) = cc
       never p (behind b e v) =
           let z : b ≡ data_of E s j (R j) = cc in omega (arith, v, ver_data E C s a f F j i, ap (λ x. version_of x 0) z)
 
@@ -150,8 +150,6 @@ module _ (E : Setup) (C : CodecLaws E) (s : ℕ) (a : s < E.S) (f : ℕ → Rec)
 
   -- where a data block is in the mask, the quick path is not taken
   pub set_slow : (j : ℕ) → j < E.D → Sorted E s f V → bad (Data j) ≡ true → quick (V (Data j)) (V Parity) j ≡ false
-  set_slow j l o z = go (cases_Bool (quick (V (Data j)) (V Parity) j))
-    where
-      go : (quick (V (Data j)) (V Parity) j ≡ true) ⊎ (quick (V (Data j)) (V Parity) j ≡ false) → quick (V (Data j)) (V Parity) j ≡ false
-      go (inl t) = absurd (both_ways (bad (Data j)) (fine_clear (Data j) l o (swift_fine j l o t)) z)
-      go (inr t) = t
+  set_slow j l o z =
+      false_from_ne_true (quick (V (Data j)) (V Parity) j)
+      (λ t. both_ways (bad (Data j)) (fine_clear (Data j) l o (swift_fine j l o t)) z)

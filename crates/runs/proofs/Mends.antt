@@ -1,7 +1,7 @@
 -- What is mended or given is exactly the block of the records.
 use Rattle.std.proofs.Common.{◌≡◌, ℕ, ◌+◌, ◌*◌, ◌<◌, ◌≤◌, Bool, true, false, cond, ltb, ◌⊎◌, List, get_or, Some, sym, refl, ap, ◌∙◌, subst, ap₂, inl, inr, arith}
 use lib.Bits.{bit_xor, xor_zero_l}
-use Rattle.std.proofs.lemmas.Bool.{le-ltb, cases_lt, cases_Bool, cond-true, cond-false}
+use Rattle.std.proofs.lemmas.Bool.{le-ltb, cases_lt, cases_Bool, false_from_ne_true, cond-true, cond-false}
 use Rattle.block.specs.declared.shapes.Role.{Role}
 use Rattle.block.specs.declared.shapes.Role.TheVariants.{Parity, Data}
 use Rattle.block.specs.Shapes.{Verdict}
@@ -55,18 +55,12 @@ module _ (E : Setup) (C : CodecLaws E) (s : ℕ) (a : s < E.S) (f : ℕ → Rec)
   abbrev pub Beside : Role → Type 0
   Beside r = (q : Role) → InStripe E q → (q ≡ r → ⊥) → Ok q
 
-  not_parity : (j : ℕ) → Parity ≡ Data j → ⊥
-  not_parity j e = let z : ◌≡◌ {A = ℕ} 0 1 = cc in omega arith
-
-  not_data : (j k : ℕ) → (k ≡ j → ⊥) → Data k ≡ Data j → ⊥
-  not_data j k d e = let z : k ≡ j = cc in d z
-
   -- the XOR of all the others, of any part of the blocks
   others_data : (j : ℕ) (g : Verdict → ℕ) (h : Rec → ℕ) → j < E.D → Beside (Data j) → g (V Parity) ≡ xors E.D (λ k. h (R k))
       → ((k : ℕ) → k < E.D → Ok (Data k) → g (V (Data k)) ≡ h (R k)) → others E.D V (Data j) g ≡ h (R j)
   unfolding others
   others_data j g h l b p d =
-      ap₂ bit_xor p (at_ext E.D (λ k. g (V (Data k))) (λ k. h (R k)) j 0 (λ k n x. d k n (b (Data k) n (not_data j k x))))
+      ap₂ bit_xor p (at_ext E.D (λ k. g (V (Data k))) (λ k. h (R k)) j 0 (λ k n x. d k n (b (Data k) n (λ e. x cc))))
       ∙ xors_others E.D (λ k. h (R k)) j l
 
   others_parity : (g : Verdict → ℕ) (h : Rec → ℕ) → Beside Parity → ((k : ℕ) → k < E.D → Ok (Data k) → g (V (Data k)) ≡ h (R k))
@@ -75,18 +69,18 @@ module _ (E : Setup) (C : CodecLaws E) (s : ℕ) (a : s < E.S) (f : ℕ → Rec)
   others_parity g h b d =
       xor_zero_l (xors E.D (at (λ k. g (V (Data k))) E.D 0))
       ∙ (at_beyond E.D (λ k. g (V (Data k))) 0
-      ∙ xors_ext E.D (λ k. g (V (Data k))) (λ k. h (R k)) (λ k l. d k l (b (Data k) l (λ e. not_parity k (sym e)))))
+      ∙ xors_ext E.D (λ k. g (V (Data k))) (λ k. h (R k)) (λ k l. d k l (b (Data k) l (λ e. cc))))
 
-  pub mend_exact : (r : Role) → InStripe E r → Beside r → mended E s V r ≡ block_of E f s r
+  mend_exact : (r : Role) → InStripe E r → Beside r → mended E s V r ≡ block_of E f s r
   unfolding mended data_of parity_of parity_with others_row mended_versions
   mend_exact Parity i b =
       parity_ext E s (λ n. others E.D V Parity (λ v. byte_in v n)) (λ n. xors E.D (λ k. get_or (R k).payload n 0))
       (others E.D V Parity owner_in) (xors E.D (λ k. (R k).owner)) (λ k. version_in (V (Data k)) 0) (λ k. (R k).version)
       (λ n m. others_parity (λ v. byte_in v n) (λ r. get_or r.payload n 0) b (λ k l. byte_data E C s a f F V k n l m))
       (others_parity owner_in (λ r. r.owner) b (own_data E C s a f F V))
-      (λ k l. vers_data E C s a f F V k l (b (Data k) l (λ e. not_parity k (sym e))))
+      (λ k l. vers_data E C s a f F V k l (b (Data k) l (λ e. cc)))
   mend_exact (Data j) i b =
-      let p : Ok Parity = b Parity tt (not_parity j) in
+      let p : Ok Parity = b Parity tt (λ e. cc) in
       data_ext E s j (table 80 (λ n. others E.D V (Data j) (λ v. byte_in v n))) (R j).payload
       (others E.D V (Data j) owner_in) (R j).owner (version_in (V Parity) j) (R j).version
       (table_ext 80 (λ n. others E.D V (Data j) (λ v. byte_in v n)) (λ n. get_or (R j).payload n 0)
@@ -99,11 +93,8 @@ module _ (E : Setup) (C : CodecLaws E) (s : ℕ) (a : s < E.S) (f : ℕ → Rec)
 
   -- a block alone in the mask: every other is good
   pub alone_beside : (r : Role) → Sorted E s f V → Alone E s V r → Beside r
-  alone_beside r o x q i d = clear_fine E C s a f F V q i o (go (cases_Bool (bad_role E.D V q)))
-    where
-      go : (bad_role E.D V q ≡ true) ⊎ (bad_role E.D V q ≡ false) → bad_role E.D V q ≡ false
-      go (inl t) = absurd (d (x.others q i t))
-      go (inr t) = t
+  alone_beside r o x q i d =
+      clear_fine E C s a f F V q i o (false_from_ne_true (bad_role E.D V q) (λ t. d (x.others q i t)))
 
   pub alone_exact : (r : Role) → Sorted E s f V → Alone E s V r → mended E s V r ≡ block_of E f s r
   alone_exact r o x = mend_exact r x.inside (alone_beside r o x)
@@ -116,11 +107,11 @@ module _ (E : Setup) (C : CodecLaws E) (s : ℕ) (a : s < E.S) (f : ℕ → Rec)
     where
       go : (x : Decision) → Says E s V x → patch_by E s V x ≡ Some p
           → (r : Role) × (InStripe E r) × (p.slot ≡ slot_of E.D s r) × (p.bytes ≡ block_of E f s r)
-      go Clean y e = let z : ◌≡◌ {A = ℕ} 0 1 = cc in absurd (omega arith)
+      go Clean y e = cc
       go (Only r) y e =
           let q : p ≡ record { slot = slot_of E.D s r; bytes = mended E s V r } = cc in
           (r, y.inside, ap (λ x. x.slot) q, ap (λ x. x.bytes) q ∙ alone_exact r o y)
-      go TwoBad y e = let z : ◌≡◌ {A = ℕ} 0 1 = cc in absurd (omega arith)
+      go TwoBad y e = cc
 
   -- what a read obtains
   module _ (j : ℕ) (l : j < E.D) (o : Sorted E s f V) where

@@ -34,18 +34,18 @@ version_small v n t = go (cases_Bool (ltb v 4294967295))
     go (inr h) = absurd (both_ways false refl (sym (ap is_ok (cond-false (ltb v 4294967295) _ (Err VersionLimit) h)) ∙ t))
 
 plan_told : (p : Plan) (v n : ℕ) → is_ok (plan_answer p v n) ≡ true → (p ≡ NoPlan → ⊥) × (suc v < 2 ^ 32)
-plan_told NoPlan v n t = absurd (both_ways false refl t)
-plan_told BySum v n t = (λ e. let z : ◌≡◌ {A = ℕ} 0 1 = cc in omega arith, version_small v n t)
-plan_told ByAll v n t = (λ e. let z : ◌≡◌ {A = ℕ} 0 1 = cc in omega arith, version_small v n t)
+plan_told NoPlan v n t = cc
+plan_told BySum v n t = (λ e. cc, version_small v n t)
+plan_told ByAll v n t = (λ e. cc, version_small v n t)
 
 -- a refused write hands down nothing
 on_refused : (a : Result WriteAnswer Refusal) (ws : List Write) → is_ok a ≡ false → on_accept a ws ≡ []
-on_refused (Ok x) ws t = absurd (both_ways true t refl)
+on_refused (Ok x) ws t = cc
 on_refused (Err r) ws t = refl
 
 on_accepted : (a : Result WriteAnswer Refusal) (ws : List Write) → is_ok a ≡ true → on_accept a ws ≡ ws
 on_accepted (Ok x) ws t = refl
-on_accepted (Err r) ws t = absurd (both_ways false refl t)
+on_accepted (Err r) ws t = cc
 
 module _ (E : Setup) (k : Content) (σ : Slots) (L : ℕ) (p : List ℕ) (o : ℕ) (y : Way) (fs : List Finding) where
   abbrev V : View

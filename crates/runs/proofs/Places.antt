@@ -38,13 +38,13 @@ role_of_slot d s (Data j) = go (data_slot d s j)
 
 pub cases_role : (r q : Role) → (q ≡ r) ⊎ (q ≡ r → ⊥)
 cases_role Parity Parity = inl refl
-cases_role Parity (Data k) = inr (λ e. let z : ◌≡◌ {A = ℕ} 0 1 = cc in omega arith)
-cases_role (Data j) Parity = inr (λ e. let z : ◌≡◌ {A = ℕ} 0 1 = cc in omega arith)
+cases_role Parity (Data k) = inr (λ e. cc)
+cases_role (Data j) Parity = inr (λ e. cc)
 cases_role (Data j) (Data k) = go (cases_eq k j)
   where
     go : (k ≡ j) ⊎ (k ≡ j → ⊥) → (Data k ≡ Data j) ⊎ (Data k ≡ Data j → ⊥)
     go (inl e) = inl (ap Data e)
-    go (inr d) = inr (λ e. let z : k ≡ j = cc in d z)
+    go (inr d) = inr (λ e. d cc)
 
 -- different blocks of a stripe lie in different slots
 pub one_role : (d s : ℕ) (r q : Role) → slot_of d s r ≡ slot_of d s q → r ≡ q

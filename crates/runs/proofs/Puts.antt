@@ -85,7 +85,7 @@ sent_here σ w c s x a b t =
     ∙ cond-true (named w c s) (Some w.bytes) x (named_yes w c s a b)
 
 -- a write that puts there what is there already
-pub same_put : (w : Write) (c s : ℕ) (b : List ℕ) → (c ≡ w.slot → s ≡ w.block → w.bytes ≡ b)
+same_put : (w : Write) (c s : ℕ) (b : List ℕ) → (c ≡ w.slot → s ≡ w.block → w.bytes ≡ b)
     → expected (w ∷ []) c s (Some b) ≡ Some b
 same_put w c s b h = go (cases_eq c w.slot) (cases_eq s w.block)
   where
@@ -102,13 +102,11 @@ same_when false w c s b h = refl
 
 -- what is seen of a place
 pub seen_bytes : (x : Cell) (t : SlotState) (s : ℕ) (b : List ℕ) → seen_at x t s ≡ Some b → (takes_at t s ≡ true) × (x ≡ Some b)
-seen_bytes x t s b e = go (cases_Bool (takes_at t s))
+seen_bytes x t s b e = go (takes_at t s) e
   where
-    go : (takes_at t s ≡ true) ⊎ (takes_at t s ≡ false) → (takes_at t s ≡ true) × (x ≡ Some b)
-    go (inl h) = (h, sym (cond-true (takes_at t s) x None h) ∙ e)
-    go (inr h) =
-        let f : None ≡ Some b = sym (cond-false (takes_at t s) x None h) ∙ e in
-        let z : ◌≡◌ {A = ℕ} 0 1 = cc in absurd (omega arith)
+    go : (y : Bool) → cond y x None ≡ Some b → (y ≡ true) × (x ≡ Some b)
+    go true h = (refl, h)
+    go false h = cc
 
 pub bytes_seen : (x : Cell) (t : SlotState) (s : ℕ) (b : List ℕ) → takes_at t s ≡ true → x ≡ Some b → seen_at x t s ≡ Some b
 bytes_seen x t s b h e = cond-true (takes_at t s) x None h ∙ e

@@ -57,7 +57,7 @@ module _ (E : Setup) (C : CodecLaws E) (s : ℕ) (a : s < E.S) (f : ℕ → Rec)
 
   swift_quick : (y : Way) (j : ℕ) → swift y V j ≡ true → quick (V (Data j)) (V Parity) j ≡ true
   swift_quick Subtractive j t = t
-  swift_quick Additive j t = absurd (both_ways false refl t)
+  swift_quick Additive j t = cc
 
   module _ (j : ℕ) (l : j < E.D) (o : Sorted E s f V) where
     abbrev Others : Type 0
@@ -69,16 +69,13 @@ module _ (E : Setup) (C : CodecLaws E) (s : ℕ) (a : s < E.S) (f : ℕ → Rec)
     Sound BySum = Ok (Data j)
     Sound ByAll = Others
 
-    not_data : (k : ℕ) → (k ≡ j → ⊥) → Data k ≡ Data j → ⊥
-    not_data k d e = let z : k ≡ j = cc in d z
-
     touched_plan : bad Parity ≡ false → (t : Bool) → touched E.D V j ≡ t → (x : Decision) → Says E s V x → Sound (plan_for t x)
     touched_plan q t e Clean y = λ k m d. clear_fine E C s a f F V (Data k) m o (y (Data k) m)
     touched_plan q true e (Only r) y = go (or_cases (bad (Data j)) (bad Parity) e)
       where
         go : (bad (Data j) ≡ true) ⊎ (bad Parity ≡ true) → Others
         go (inl t) =
-            λ k m d. alone_beside E C s a f F V r o y (Data k) m (λ z. not_data k d (z ∙ sym (y.others (Data j) l t)))
+            λ k m d. alone_beside E C s a f F V r o y (Data k) m (λ z. d (cc (y.others (Data j) l t)))
         go (inr t) = absurd (both_ways (bad Parity) q t)
     touched_plan q false e (Only r) y = clear_fine E C s a f F V (Data j) l o (or_parts (bad (Data j)) (bad Parity) e).0
     touched_plan q true e TwoBad y = tt

@@ -21,7 +21,7 @@ lasts E G C w₀ I w (step v k r o p) = starts_next E G C v (lasts E G C w₀ I 
 
 one_byte : (E : Setup) → CodecLaws E → (w : World) → Starts E w → OneByteShows E w
 one_byte E C w I s r b i v a q g h l k d =
-    let e : block_of E w.book.records s r ≡ b = let f : Some (block_of E w.book.records s r) ≡ Some b = sym g ∙ h in cc in
+    let e : block_of E w.book.records s r ≡ b = cc in
     cond-true (broken_by E.sum (set b i v)) (Err Broken) (cond (native_block E s r (set b i v)) (Ok (set b i v)) (Err Foreign))
     (subst (λ z. (get_or z i 0 ≡ v → ⊥) → broken_by E.sum (set z i v) ≡ true) e
     (block_broken E C s a w.book.records I.fits r i v q l k) d)

@@ -54,7 +54,7 @@ use Rattle.runs.proofs.Places.{role_of_slot, slot_in}
 use Rattle.runs.proofs.Puts.{Did, expected, expected_++, named, named_not, named_yes}
 use Rattle.runs.proofs.Renews.{new_data_lem}
 use Rattle.runs.proofs.RunLaw.{blank_fits, lasts}
-use Rattle.runs.proofs.Worlds.{view_in, fine_good, poor_bad, stripe_lt, good_clear}
+use Rattle.runs.proofs.Worlds.{view_in, fine_good, poor_bad, fine_or_poor, stripe_lt, good_clear}
 use Rattle.runs.proofs.Writing.{f', B', l₀, a₀, O₀, new_rec, parity_good, write_fits, write_stays}
 
 -- A plain memory that holds a formatted array: each place holds what was last written to it.
@@ -83,7 +83,7 @@ memory_good E = record {
     last us w c s = expected_++ us (w ∷ []) c s (first c s)
 
 -- blocks of records have 128 bytes
-pub block_long : (E : Setup) → InRange E → (f : ℕ → Rec) → ((L : ℕ) → Fits (f L)) → (s : ℕ) → s < E.S → (r : Role) → InStripe E r
+block_long : (E : Setup) → InRange E → (f : ℕ → Rec) → ((L : ℕ) → Fits (f L)) → (s : ℕ) → s < E.S → (r : Role) → InStripe E r
     → length (block_of E f s r) ≡ 128
 unfolding data_of parity_of
 block_long E G f F s a Parity i =
@@ -108,7 +108,7 @@ whole_sent E σ w vs h r = go (takes_at (σ w.slot) w.block)
     go false = r
 
 -- a faithful shelf stays one, and does such writes as told
-pub faithful_after : (N S : ℕ) (m : Conduct) (us : List Write) → Faithful N S m → Faithful N S (after_all m us)
+faithful_after : (N S : ℕ) (m : Conduct) (us : List Write) → Faithful N S m → Faithful N S (after_all m us)
 faithful_after N S m us h ws w a b c =
     subst (λ (k : Conduct). AsTold N S k w) (λ i vs x y. m (append_assoc us ws vs i) x y) (h (us ++ ws) w a b c)
 
@@ -132,12 +132,7 @@ orderly_beside E C w I p h = record { each = each; apart = apart }
     each s (Data j) a i = h s j a i
 
     sorts : (s : ℕ) → s < E.S → Sorted E s w.book.records (view_in E w s)
-    sorts s a = good_parity (fine_good E C w I s Parity a tt (p s a)) (λ j l. go j l (h s j a l))
-      where
-        go : (j : ℕ) → j < E.D → Good E w s (Data j) ⊎ Bad E w s (Data j)
-            → Fine E s w.book.records (view_in E w s) (Data j) ⊎ Poor E s w.book.records (view_in E w s) (Data j)
-        go j l (inl x) = inl (fine_good E C w I s (Data j) a l x)
-        go j l (inr x) = inr (poor_bad E C w I s (Data j) l x)
+    sorts s a = good_parity (fine_good E C w I s Parity a tt (p s a)) (λ j l. fine_or_poor E C w I s (Data j) a l (h s j a l))
 
     apart : (s j : ℕ) → s < E.S → j < E.D → Bad E w s Parity → Bad E w s (Data j) → ⊥
     apart s j a l b _ =
@@ -168,7 +163,7 @@ module _ (E : Setup) (G : InRange E) (C : CodecLaws E) (w : World) (I : Starts E
     new_long : (r : Role) → InStripe E r → length (block_of E (f' E G C w I O L p o y fs) (L / E.D) r) ≡ 128
     new_long = block_long E G (f' E G C w I O L p o y fs) new_fits (L / E.D) (a₀ E G C w I O L p o y fs W)
 
-    pub whole_data : Whole E (data_write E (L / E.D) (view_in E w (L / E.D)) (L % E.D) p o)
+    whole_data : Whole E (data_write E (L / E.D) (view_in E w (L / E.D)) (L % E.D) p o)
     whole_data = (
       slot_in E (L / E.D) (Data (L % E.D)) (l₀ E G C w I O L p o y fs),
       a₀ E G C w I O L p o y fs W,

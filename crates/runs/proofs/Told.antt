@@ -1,7 +1,10 @@
 -- Whether a card did as told can be decided: either it did all its writes, or one of them is named that it did not.
 use Rattle.std.specs.Prelude.{Some, None}
-use Rattle.std.proofs.Common.{◌≡◌, ℕ, zero, suc, ◌+◌, ◌<◌, ◌⊎◌, List, [], ◌∷◌, sym, refl, ap, subst, ap₂, inl, inr, arith}
-use Rattle.std.proofs.lemmas.Bool.{cases_eq}
+use Rattle.std.proofs.Common.{◌≡◌, ℕ, zero, suc, ◌+◌, ◌<◌, true, false, ◌⊎◌, List, [], ◌∷◌, sym, refl, ap, subst, ap₂, inl, inr, arith}
+use Rattle.std.proofs.lemmas.Bool.{cases_eq, cases_Bool}
+use Rattle.std.proofs.lemmas.Bool.Decides.{not_from_Decides}
+use Rattle.std.proofs.lemmas.Slice.Eq.{bytes_eq-Decides}
+use Rattle.std.specs.Str.{bytes_eq}
 use Rattle.block.specs.Shapes.{Cell}
 use Rattle.block.specs.Judging.{Setup}
 use Rattle.shelf.specs.Model.{Write, Conduct, AsTold, after_all}
@@ -13,25 +16,21 @@ abbrev Either : Type 0 → Type 0
 Either P = P ⊎ (P → ⊥)
 
 cases_bytes : (xs ys : List ℕ) → Either (xs ≡ ys)
-cases_bytes [] [] = inl refl
-cases_bytes [] (y ∷ ys) = inr (λ e. let z : ◌≡◌ {A = ℕ} 0 1 = cc in omega arith)
-cases_bytes (x ∷ xs) [] = inr (λ e. let z : ◌≡◌ {A = ℕ} 0 1 = cc in omega arith)
-cases_bytes (x ∷ xs) (y ∷ ys) = go (cases_eq x y) (cases_bytes xs ys)
+cases_bytes xs ys = go (cases_Bool (bytes_eq xs ys))
   where
-    go : Either (x ≡ y) → Either (xs ≡ ys) → Either (x ∷ xs ≡ y ∷ ys)
-    go (inl a) (inl b) = inl (ap₂ ◌∷◌ a b)
-    go (inl a) (inr b) = inr (λ e. let z : xs ≡ ys = cc in b z)
-    go (inr a) o = inr (λ e. let z : x ≡ y = cc in a z)
+    go : (bytes_eq xs ys ≡ true) ⊎ (bytes_eq xs ys ≡ false) → Either (xs ≡ ys)
+    go (inl t) = inl ((bytes_eq-Decides xs ys).0 t)
+    go (inr t) = inr (not_from_Decides _ (bytes_eq-Decides xs ys) t)
 
 pub cases_cell : (x y : Cell) → Either (x ≡ y)
 cases_cell None None = inl refl
-cases_cell None (Some b) = inr (λ e. let z : ◌≡◌ {A = ℕ} 0 1 = cc in omega arith)
-cases_cell (Some a) None = inr (λ e. let z : ◌≡◌ {A = ℕ} 0 1 = cc in omega arith)
+cases_cell None (Some b) = inr (λ e. cc)
+cases_cell (Some a) None = inr (λ e. cc)
 cases_cell (Some a) (Some b) = go (cases_bytes a b)
   where
     go : Either (a ≡ b) → Either (Some a ≡ Some b)
     go (inl e) = inl (ap Some e)
-    go (inr d) = inr (λ e. let z : a ≡ b = cc in d z)
+    go (inr d) = inr (λ e. d cc)
 
 cases_below : (P : ℕ → Type 0) → ((i : ℕ) → Either (P i)) → (n : ℕ) → Either ((i : ℕ) → i < n → P i)
 cases_below P h zero = inl (λ i l. absurd (omega arith))

@@ -198,9 +198,8 @@ module _ (mark : ℕ) (sum : List ℕ → ℕ) (hm : mark < 2 ^ 8) (hs : SumLaw 
           never : Good E w 0 (Data 0) ⊎ OnlyBad E w 0 (Data 0) → ⊥
           never (inl g) = not_good g
           never (inr g) =
-              let y : Good₁ k = g.others (Data 1) (omega arith) (λ z. let u : ◌≡◌ {A = ℕ} 0 1 = cc in omega arith) in
-              let z : ◌≡◌ {A = ℕ} 0 1 = cc in
-              omega arith
+              let y : Good₁ k = g.others (Data 1) (omega arith) (λ z. cc) in
+              cc
 
     -- from a world after the write: the read with the switch off, and card 1 turned blind
     record After (w₀ w : World) : Type 0 where
@@ -347,8 +346,8 @@ module _ (mark : ℕ) (sum : List ℕ → ℕ) (hm : mark < 2 ^ 8) (hs : SumLaw 
               → FailedWrite E w₁.shelf (handed E w₁.shelf w₁.array k₁) 0
           go (inl x) = x
           go (inr (inl x)) = absurd x
-          go (inr (inr (x, inl e))) = let z : ◌≡◌ {A = ℕ} 0 1 = cc in absurd (omega arith)
-          go (inr (inr (x, inr e))) = let z : ◌≡◌ {A = ℕ} 0 1 = cc in absurd (omega arith)
+          go (inr (inr (x, inl e))) = cc
+          go (inr (inr (x, inr e))) = cc
 
       witness : Witness E m p o f b fs
       witness = record {

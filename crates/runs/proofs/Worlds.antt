@@ -69,21 +69,21 @@ module _ (E : Setup) (C : CodecLaws E) (w : World) (I : Starts E w) where
   poor_bad s r i (foreign e) = unfit Foreign (judged s r i ∙ e)
   poor_bad s r i (behind b e h) = lower b (judged s r i ∙ e) h
 
+  pub fine_or_poor : (s : ℕ) (r : Role) → s < E.S → InStripe E r → Good E w s r ⊎ Bad E w s r
+      → Fine E s f (view_in E w s) r ⊎ Poor E s f (view_in E w s) r
+  fine_or_poor s r a i (inl g) = inl (fine_good s r a i g)
+  fine_or_poor s r a i (inr b) = inr (poor_bad s r i b)
+
   module _ (O : Orderly E w) where
     pub sorted : (s : ℕ) → s < E.S → Sorted E s f (view_in E w s)
     sorted s a = go (O.each s Parity a tt)
       where
-        one : (j : ℕ) → j < E.D → Good E w s (Data j) ⊎ Bad E w s (Data j)
-            → Fine E s f (view_in E w s) (Data j) ⊎ Poor E s f (view_in E w s) (Data j)
-        one j l (inl g) = inl (fine_good s (Data j) a l g)
-        one j l (inr b) = inr (poor_bad s (Data j) l b)
-
         beside : Bad E w s Parity → (j : ℕ) → j < E.D → Good E w s (Data j) ⊎ Bad E w s (Data j) → Fine E s f (view_in E w s) (Data j)
         beside p j l (inl g) = fine_good s (Data j) a l g
         beside p j l (inr b) = absurd (O.apart s j a l p b)
 
         go : Good E w s Parity ⊎ Bad E w s Parity → Sorted E s f (view_in E w s)
-        go (inl g) = good_parity (fine_good s Parity a tt g) (λ j l. one j l (O.each s (Data j) a l))
+        go (inl g) = good_parity (fine_good s Parity a tt g) (λ j l. fine_or_poor s (Data j) a l (O.each s (Data j) a l))
         go (inr p) = bad_parity (poor_bad s Parity tt p) (λ j l. beside p j l (O.each s (Data j) a l))
 
     module _ (s : ℕ) (a : s < E.S) where

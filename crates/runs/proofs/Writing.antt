@@ -29,7 +29,7 @@ use Rattle.runs.proofs.Worlds.{index_lt, stripe_lt, home, view_in, fine_good, so
 use Rattle.runs.proofs.Xors.{xors_ext}
 
 -- the records that an accepted write leaves
-pub parity_same : (E : Setup) (s : ℕ) (P Q : ℕ → Rec) → ((k : ℕ) → k < E.D → P k ≡ Q k) → parity_of E s P ≡ parity_of E s Q
+parity_same : (E : Setup) (s : ℕ) (P Q : ℕ → Rec) → ((k : ℕ) → k < E.D → P k ≡ Q k) → parity_of E s P ≡ parity_of E s Q
 unfolding parity_of parity_with
 parity_same E s P Q h =
     parity_ext E s (λ i. xors E.D (λ k. get_or (P k).payload i 0)) (λ i. xors E.D (λ k. get_or (Q k).payload i 0))
@@ -112,9 +112,6 @@ module _ (E : Setup) (G : InRange E) (C : CodecLaws E) (w : World) (I : Starts E
   apart : (r q : Role) → (r ≡ q → ⊥) → slot s₀ r ≡ slot s₀ q → ⊥
   apart r q d e = d (one_role E.D s₀ r q e)
 
-  no_parity : (k : ℕ) → Data k ≡ Parity → ⊥
-  no_parity k e = let z : ◌≡◌ {A = ℕ} 0 1 = cc in omega arith
-
   module _ (W : Accepted E V σ L p o y (handed E w.shelf w.array (write L p o y fs))) where
     pub a₀ : s₀ < E.S
     a₀ = stripe_lt E G L W.there
@@ -127,7 +124,7 @@ module _ (E : Setup) (G : InRange E) (C : CodecLaws E) (w : World) (I : Starts E
     put_data x t =
         expected_++ (sent σ w₁) (sent σ w₂) (slot s₀ (Data j₀)) s₀ x
         ∙ (sent_other σ w₂ (slot s₀ (Data j₀)) s₀ (expected (sent σ w₁) (slot s₀ (Data j₀)) s₀ x)
-        (λ e _. apart (Data j₀) Parity (no_parity j₀) e)
+        (λ e _. apart (Data j₀) Parity (λ z. cc) e)
         ∙ (sent_here σ w₁ (slot s₀ (Data j₀)) s₀ x refl refl t
         ∙ ap Some (new_data_lem E C s₀ a₀ B.records I.fits V j₀ l₀ O₀ (rec_at E f' s₀) p o new_rec)))
 
@@ -163,8 +160,8 @@ module _ (E : Setup) (G : InRange E) (C : CodecLaws E) (w : World) (I : Starts E
             subst (λ z. Good E w s₀ (Data z) → Puts s₀ (Data z)) (sym e)
             (λ h. put_data (Some (block_of E B.records s₀ (Data j₀))) (good_takes_in E w I s₀ (Data j₀) h)) g
         go (inr d) =
-            both_other s₀ (Data k) (λ e _. apart (Data k) (Data j₀) (λ z. let q : k ≡ j₀ = cc in d q) e)
-            (λ e _. apart (Data k) Parity (no_parity k) e) (ap (data_of E s₀ k) (sym (old_rec k d)))
+            both_other s₀ (Data k) (λ e _. apart (Data k) (Data j₀) (λ z. d cc) e)
+            (λ e _. apart (Data k) Parity (λ z. cc) e) (ap (data_of E s₀ k) (sym (old_rec k d)))
 
     put_any : (s : ℕ) (r : Role) → InStripe E r → Good E w s r → (s ≡ s₀) ⊎ (s ≡ s₀ → ⊥) → Puts s r
     put_any s r i g (inl e) = subst (λ z. Good E w z r → Puts z r) (sym e) (put_near r i) g

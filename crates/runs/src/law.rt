@@ -4,64 +4,46 @@ ghost use Rattle.runs.specs.Companions.{ScrubMends, WriteLands, SameParity, Behi
 ghost use Rattle.runs.specs.Witness.{LawSpeaks, WitnessRun};
 
 // The law over runs holds, from any shelf and any book.
-pub fn law_holds() -> u8
+pub fn law_holds()
     ensures { RunLaw }
-{
-    0
-}
+{}
 
 // A scrub mends a stripe's only bad block.
-pub fn scrub_mends() -> u8
+pub fn scrub_mends()
     ensures { ScrubMends }
-{
-    0
-}
+{}
 
 // The blocks of an accepted write are good afterwards.
-pub fn write_lands() -> u8
+pub fn write_lands()
     ensures { WriteLands }
-{
-    0
-}
+{}
 
 // Both ways of a write make the same parity in a stripe of good blocks.
-pub fn same_parity() -> u8
+pub fn same_parity()
     ensures { SameParity }
-{
-    0
-}
+{}
 
 // Parity behind at another index stays behind after a quick write.
-pub fn behind_stays() -> u8
+pub fn behind_stays()
     ensures { BehindStays }
-{
-    0
-}
+{}
 
 // A scrub of many stripes is a chain of steps.
-pub fn scrub_is_steps() -> u8
+pub fn scrub_is_steps()
     ensures { ScrubIsSteps }
-{
-    0
-}
+{}
 
 // A rebuild of many stripes is a chain of steps.
-pub fn rebuild_is_steps() -> u8
+pub fn rebuild_is_steps()
     ensures { RebuildIsSteps }
-{
-    0
-}
+{}
 
 // Orderly runs exist: over a good shelf, every list of reads, writes, looks and scrubs is one.
-pub fn law_speaks() -> u8
+pub fn law_speaks()
     ensures { LawSpeaks }
-{
-    0
-}
+{}
 
 // A run in which a card loses a write, a read is given rebuilt, and a later read says lost.
-pub fn witness_run() -> u8
+pub fn witness_run()
     ensures { WitnessRun }
-{
-    0
-}
+{}

@@ -78,14 +78,14 @@ pub enum Event {
 }
 
 // The write that mends a stripe's only bad block.
-#[derive(Clone, Copy)]
+#[derive(Clone, Copy, PartialEq, Eq, Debug)]
 pub struct Patch {
     pub slot: u32,
     pub bytes: [u8; 128],
 }
 
 // The block of an address as a read obtains it.
-#[derive(Clone, Copy)]
+#[derive(Clone, Copy, PartialEq, Eq, Debug)]
 pub enum Obtained {
     Lost,
     Found([u8; 128]),
@@ -93,7 +93,7 @@ pub enum Obtained {
 }
 
 // What a read makes of a stripe.
-#[derive(Clone, Copy)]
+#[derive(Clone, Copy, PartialEq, Eq, Debug)]
 pub struct Gathered {
     pub obtained: Obtained,
     pub looks: u32,
