@@ -2,51 +2,50 @@
 ghost use Rattle.std.specs.Prelude.{◌≡◌, ℕ, ◌+◌, ◌<◌, ◌≤◌};
 ghost use Rattle.block.specs.Judging.{setup};
 ghost use Rattle.shelf.specs.Model.{after_all};
-ghost use Rattle.stripe.specs.View.{as_view, slots_in};
+ghost use Rattle.stripe.specs.View.{seen_in, slots_in};
 ghost use Rattle.runs.specs.Done.{PatchBelow};
 ghost use Rattle.runs.specs.Gather.{patch_by, patch_of, patch_writes, patched_slot};
 
-use block::{Frame, Role, Verdict, slot_of};
+use block::{Frame, Role, Spot};
 use checksum::Checksum;
 use mending::mended_block;
 use runs::Patch;
 use shelf::{ReadableShelf, WritableShelf, store};
-use stripe::{Decision, SlotState, decide, takes};
+use stripe::{Decision, SlotState, Stripe, takes};
 
 // The patch of stripe s, by what its bad blocks decide: there is one if a block is bad and no other.
 pub fn patch_by<C: Checksum>(
     decision: Decision,
-    parity: &Verdict,
-    data: &[Verdict; 7],
+    stripe: &Stripe,
     frame: Frame,
     s: u32,
 ) -> Option<Patch>
     requires placed { (j : ℕ) → decision ≡ Decision.Only (Role.Data j) → j < frame.width }
     ensures below { PatchBelow (frame.width + 1) result }
-    ensures is { result ≡ patch_by (setup frame C.MARK C.meaning) s (as_view parity.now «data».now) decision }
+    ensures is { result ≡ patch_by (setup frame C.MARK C.meaning) s (seen_in stripe.now) decision }
 {
     match decision {
-        Decision::Clean => None,
-        Decision::Only(role) => Some(Patch {
-            slot: slot_of(frame, s, role),
-            bytes: mended_block::<C>(parity, data, frame, s, role),
-        }),
-        Decision::Lost => None,
+        Decision::Only(role) => {
+            let spot = Spot {
+                frame,
+                stripe: s,
+                role,
+            };
+            Some(Patch {
+                slot: spot.slot(),
+                bytes: mended_block::<C>(stripe, spot),
+            })
+        }
+        Decision::Clean | Decision::Lost => None,
     }
 }
 
 // The patch of stripe s, if one of its blocks is bad and no other.
-pub fn patch_of<C: Checksum>(
-    parity: &Verdict,
-    data: &[Verdict; 7],
-    frame: Frame,
-    s: u32,
-) -> Option<Patch>
+pub fn patch_of<C: Checksum>(stripe: &Stripe, frame: Frame, s: u32) -> Option<Patch>
     ensures below { PatchBelow (frame.width + 1) result }
-    ensures is { result ≡ patch_of (setup frame C.MARK C.meaning) s (as_view parity.now «data».now) }
+    ensures is { result ≡ patch_of (setup frame C.MARK C.meaning) s (seen_in stripe.now) }
 {
-    let decision = decide(parity, data, frame, s);
-    patch_by::<C>(decision, parity, data, frame, s)
+    patch_by::<C>(stripe.decide(frame, s), stripe, frame, s)
 }
 
 // Hands a patch of stripe s down, unless its place takes no writes; answers the slot to which it was handed.
@@ -64,15 +63,10 @@ pub fn apply_patch<W: WritableShelf>(
     ensures cards { W.cards shelf.new ≡ W.cards shelf.old }
     ensures blocks { W.blocks shelf.new ≡ W.blocks shelf.old }
 {
-    match patch {
-        None => None,
-        Some(p) => {
-            if takes(states[p.slot as usize], s) {
-                store(shelf, p.slot, s, &p.bytes);
-                Some(p.slot)
-            } else {
-                None
-            }
-        }
+    let p = patch?;
+    if !takes(states[p.slot as usize], s) {
+        return None;
     }
+    store(shelf, p.slot, s, &p.bytes);
+    Some(p.slot)
 }

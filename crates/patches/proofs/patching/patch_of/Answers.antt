@@ -6,4 +6,4 @@ pub returns : goal.returns
 unfolding patch_of
 returns g c =
     let e = c.patch_by.ensures in
-    record { below = e.below; is = e.is ∙ ap (patch_by _ _ _) c.decide-decision.ensures.is }
+    record { below = e.below; is = e.is ∙ ap (patch_by _ _ _) c.decide.ensures.is }
