@@ -1,5 +1,5 @@
 // What stays fixed of an array.
-ghost use Rattle.std.specs.Prelude.{◌≤◌};
+ghost use Rattle.std.specs.Prelude.{◌^◌, ◌<◌, ◌≤◌};
 
 // The data blocks of a stripe (the cards but one), the blocks of a card, and the array's tag.
 #[derive(Clone, Copy)]
@@ -12,4 +12,5 @@ pub struct Frame {
     ghost some: { 1 ≤ blocks },
     ghost many: { blocks ≤ 65536 },
     ghost tagged: { 1 ≤ tag },
+    ghost narrow: { tag < 2 ^ 32 },
 }

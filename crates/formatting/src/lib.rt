@@ -3,4 +3,4 @@
 
 mod formatting;
 
-pub use formatting::format_shelf;
+pub use formatting::format_cards;

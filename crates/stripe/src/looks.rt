@@ -44,6 +44,21 @@ pub fn takes(state: SlotState, s: u32) -> bool
 }
 
 impl<W: WritableShelf> CardSet<W> {
+    // The cards of an array on a shelf, under a tag, with all slots in.
+    pub fn new(shelf: W, tag: u32) -> CardSet<W>
+        requires { 1 ≤ tag }
+        ensures shelf { result.shelf ≡ shelf }
+        ensures tag { result.frame.tag ≡ tag }
+        ensures slots { slots_in result.states ≡ all_in }
+    {
+        let frame = frame_of(&shelf, tag);
+        CardSet {
+            shelf,
+            frame,
+            states: all_slots_in(),
+        }
+    }
+
     // The cards, to be read.
     pub fn view(&self) -> CardView<'_, W>
         ensures shelf { result.shelf.now ≡ self.now.shelf }
