@@ -47,6 +47,7 @@ impl Extent {
     }
 
     // The extent of an image of so many cards and blocks with these bytes, or why they are none.
+    #[tactic(auto, unfolding(crate::specs::Layout::open_refusal))]
     pub(crate) fn of_image(cards: u32, blocks: u32, bytes: &[u8]) -> Result<Extent, Refusal>
         ensures refusal { result_err result ≡ open_refusal cards blocks bytes.now }
         ensures extent { IfOk result (λ e. (e.cards ≡ cards) × (e.blocks ≡ blocks)) }
@@ -68,6 +69,7 @@ impl Extent {
     }
 
     // The place that a read or write of so many bytes names, or why it is refused.
+    #[tactic(auto, unfolding(shelf::specs::Model::write_answer))]
     pub(crate) fn place(self, slot: u32, block: u32, len: usize) -> Result<Place, Refusal>
         ensures refusal { IfErr result (λ e. write_answer {T = Unit {0}} tt self.cards self.blocks slot block len ≡ Err e) }
         ensures place { IfOk result (λ p. (p.places ≡ self.cards * self.blocks) × (p.number ≡ slot * self.blocks + block)) }

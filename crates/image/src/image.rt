@@ -43,6 +43,7 @@ impl WritableShelf for Image {
     ghost own = { λ s. image_own s.extent.cards s.extent.blocks _ (sym s.bytes.ok.0 ∙ s.full) };
 
     // The place holds the bytes and is readable.
+    #[tactic(auto, using(crate::proofs::Writes::wrote), unfolding(shelf::specs::Model::write_answer, shelf::specs::Model::writes_taken))]
     fn write(&mut self, slot: u32, block: u32, bytes: &[u8]) -> Result<(), Refusal> {
         let place = self.extent.place(slot, block, bytes.len())?;
         place.put(self.bytes.as_mut_slice(), bytes);

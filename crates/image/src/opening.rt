@@ -15,15 +15,6 @@ use crate::shapes::{Image, ImageView};
 use block::Refusal;
 use std::alloc::Global;
 
-// The image of this extent with these bytes. It does every write as told.
-fn image_of(extent: Extent, bytes: Vec<u8>) -> Image
-    requires { vec_len bytes ≡ extent.cards * extent.blocks * 129 }
-    ensures value { (result.extent ≡ extent) × (result.bytes ≡ bytes) }
-    ensures told { Faithful (readable.cards result) (readable.blocks result) (writable.conduct result) }
-{
-    Image { extent, bytes }
-}
-
 impl<'a> ImageView<'a> {
     // The shelf of so many cards and blocks over these bytes, or why they are none.
     pub fn open(cards: u32, blocks: u32, bytes: &'a [u8]) -> Result<ImageView<'a>, Refusal>
@@ -47,7 +38,7 @@ impl Image {
         ensures told { IfOk result (λ i. Faithful (readable.cards i) (readable.blocks i) (writable.conduct i)) }
     {
         match Extent::of_image(cards, blocks, bytes.as_slice()) {
-            Ok(extent) => Ok(image_of(extent, bytes)),
+            Ok(extent) => Ok(Image { extent, bytes }),
             Err(refusal) => Err(RefusedImage { refusal, bytes }),
         }
     }
@@ -62,7 +53,7 @@ impl Image {
     {
         let extent = Extent::new(cards, blocks)?;
         let bytes = vec![in heap; 0u8; extent.places() * 129]?;
-        Ok(image_of(extent, bytes))
+        Ok(Image { extent, bytes })
     }
 
     // The bytes of the image.

@@ -16,6 +16,7 @@ pub(crate) struct Place {
 
 impl Place {
     // What it holds, into the buffer; zeros where it is blind.
+    #[tactic(auto, unfolding(crate::specs::Layout::cell_at))]
     pub(crate) fn show(self, image: &[u8], buf: &mut [u8]) -> Sight
         requires full { length image.now ≡ self.places * 129 }
         requires len { length buf.old ≡ 128 }
@@ -33,6 +34,7 @@ impl Place {
     }
 
     // Puts a block to it. It is readable then.
+    #[tactic(auto, using(std::proofs::lemmas::Slice::overwrites), unfolding(crate::specs::Layout::put_at))]
     pub(crate) fn put(self, image: &mut [u8], bytes: &[u8])
         requires full { length image.old ≡ self.places * 129 }
         requires len { length bytes.now ≡ 128 }

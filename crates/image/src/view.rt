@@ -23,6 +23,7 @@ impl<'a> ReadableShelf for ImageView<'a> {
         self.extent.blocks
     }
 
+    #[tactic(auto, unfolding(shelf::specs::Model::read_answer, shelf::specs::Model::read_buffer, shelf::specs::Model::write_answer, crate::specs::Layout::content_of))]
     fn read(&self, slot: u32, block: u32, buf: &mut [u8]) -> Result<Sight, Refusal> {
         let place = self.extent.place(slot, block, buf.len())?;
         Ok(place.show(self.bytes, buf))
