@@ -26,14 +26,6 @@ fn flags_fit(flags: &[u8]) -> bool
     flags.iter().all(|flag| *flag <= 1)
 }
 
-// Whether the bytes are an image of so many places.
-fn bytes_fit(places: usize, bytes: &[u8]) -> bool
-    requires { places ≤ 524288 }
-    ensures { result ≡ bytes_fit places bytes.now }
-{
-    bytes.len() == places * 129 && flags_fit(&bytes[places * 128..])
-}
-
 impl Extent {
     // So many cards and blocks, if a shelf can have them.
     pub(crate) fn new(cards: u32, blocks: u32) -> Result<Extent, Refusal>
@@ -54,10 +46,18 @@ impl Extent {
         ensures full { IfOk result (λ e. length bytes.now ≡ e.cards * e.blocks * 129) }
     {
         let extent = Extent::new(cards, blocks)?;
-        if !bytes_fit(extent.places(), bytes) {
+        if !extent.fits(bytes) {
             return Err(Refusal::Length);
         }
         Ok(extent)
+    }
+
+    // Whether the bytes are an image of this extent: as many as its places take, and every flag 0 or 1.
+    fn fits(self, bytes: &[u8]) -> bool
+        ensures { result ≡ bytes_fit (self.cards * self.blocks) bytes.now }
+    {
+        let places = self.places();
+        bytes.len() == places * 129 && flags_fit(&bytes[places * 128..])
     }
 
     // The number of places.
