@@ -1,2 +1,1 @@
-pub mod Refusing
-pub mod Named
+pub mod Writes

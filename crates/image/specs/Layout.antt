@@ -1,5 +1,6 @@
 -- How an image lays a shelf out: the blocks of 128 bytes, slot by slot, then a flag for each block, 0 readable and 1 blind.
-use Rattle.std.specs.Prelude.{ℕ, ◌+◌, ◌*◌, Bool, true, cond, ◌&&◌, List, [], ◌∷◌, length, take, drop, Some, None, Option, ◌==◌, nat_le, slice_index_or, slice_set}
+use Rattle.std.specs.Prelude.{ℕ, ◌+◌, ◌*◌, Bool, cond, ◌&&◌, List, [], ◌∷◌, length, take, drop, Some, None, Option, ◌==◌, nat_le, slice_index_or, slice_set}
+use Rattle.std.specs.List.{list_all}
 use Rattle.std.proofs.Math.Seq.{paste}
 use Rattle.block.specs.declared.refusal.Refusal.{Refusal}
 use Rattle.block.specs.declared.refusal.Refusal.TheVariants.{Length, Shape}
@@ -11,8 +12,7 @@ use Rattle.image.specs.Extents.{shape_fits}
 
 -- every flag is 0 or 1
 abbrev pub flags_fit : List ℕ → Bool
-flags_fit [] = true
-flags_fit (f ∷ fs) = nat_le f 1 && flags_fit fs
+flags_fit fs = list_all (λ f. nat_le f 1) fs
 
 -- as many bytes as m places take, and every flag is 0 or 1
 abbrev pub bytes_fit : ℕ → List ℕ → Bool

@@ -3,4 +3,3 @@ pub mod Layout
 pub mod Making
 pub mod Sized
 pub mod Puts
-pub mod Seen

@@ -5,7 +5,7 @@ mod extent;
 mod failures;
 mod image;
 mod opening;
-mod places;
+mod place;
 mod shapes;
 mod view;
 

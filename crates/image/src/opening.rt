@@ -3,7 +3,6 @@ ghost use Rattle.std.specs.Prelude.{◌≡◌, ◌*◌, replicate, IfOk, vec_len
 ghost use Rattle.std.specs.Option.{option_map};
 ghost use Rattle.std.specs.Result.{result_err};
 ghost use Rattle.shelf.specs.Model.{Faithful};
-ghost use Rattle.image.specs.Extents.{places_of};
 ghost use Rattle.image.specs.Layout.{content_of, open_refusal};
 ghost use Rattle.image.specs.Making.{handed_back, make_refusal, refusal_of};
 ghost use Rattle.image.specs.contracts.image.ImageReadableShelf.TheImpl.{ghosts as readable};
@@ -12,27 +11,9 @@ ghost use Rattle.image.specs.contracts.view.ImageViewReadableShelf.TheImpl.{ghos
 
 use crate::extent::Extent;
 use crate::failures::{MakeError, RefusedImage};
-use crate::places::extent_of;
 use crate::shapes::{Image, ImageView};
 use block::Refusal;
-use std::alloc::{AllocError, Global};
-
-// The image of this extent with these bytes. It does every write as told.
-fn image_of(extent: Extent, bytes: Vec<u8>) -> Image
-    requires { vec_len bytes ≡ places_of extent * 129 }
-    ensures value { (result.extent ≡ extent) × (result.bytes ≡ bytes) }
-    ensures told { Faithful (readable.cards result) (readable.blocks result) (writable.conduct result) }
-{
-    Image { extent, bytes }
-}
-
-// The bytes of an image of this extent that are all 0.
-fn zero_bytes(heap: Global, extent: Extent) -> Result<Vec<u8>, AllocError>
-    ensures items { IfOk result (λ v. v.items ≡ replicate (places_of extent * 129) 0) }
-    ensures len { IfOk result (λ v. vec_len v ≡ places_of extent * 129) }
-{
-    vec![in heap; 0u8; extent.places() * 129]
-}
+use std::alloc::Global;
 
 impl<'a> ImageView<'a> {
     // The shelf of so many cards and blocks over these bytes, or why they are none.
@@ -42,7 +23,7 @@ impl<'a> ImageView<'a> {
         ensures holds { IfOk result (λ v. viewed.holds v ≡ content_of cards blocks bytes.now) }
         ensures bytes { IfOk result (λ v. v.bytes.now ≡ bytes.now) }
     {
-        let extent = extent_of(cards, blocks, bytes)?;
+        let extent = Extent::of_image(cards, blocks, bytes)?;
         Ok(ImageView { extent, bytes })
     }
 }
@@ -56,8 +37,8 @@ impl Image {
         ensures bytes { IfOk result (λ i. i.bytes ≡ bytes) }
         ensures told { IfOk result (λ i. Faithful (readable.cards i) (readable.blocks i) (writable.conduct i)) }
     {
-        match extent_of(cards, blocks, bytes.as_slice()) {
-            Ok(extent) => Ok(image_of(extent, bytes)),
+        match Extent::of_image(cards, blocks, bytes.as_slice()) {
+            Ok(extent) => Ok(Image { extent, bytes }),
             Err(refusal) => Err(RefusedImage { refusal, bytes }),
         }
     }
@@ -70,21 +51,16 @@ impl Image {
         ensures bytes { IfOk result (λ i. i.bytes.items ≡ replicate (cards * blocks * 129) 0) }
         ensures told { IfOk result (λ i. Faithful (readable.cards i) (readable.blocks i) (writable.conduct i)) }
     {
-        let Some(extent) = Extent::of(cards, blocks) else {
-            return Err(MakeError::Refused(Refusal::Shape));
-        };
-        match zero_bytes(heap, extent) {
-            Ok(bytes) => Ok(image_of(extent, bytes)),
-            Err(_) => Err(MakeError::NoMemory),
-        }
+        let extent = Extent::new(cards, blocks)?;
+        let bytes = vec![in heap; 0u8; extent.places() * 129]?;
+        Ok(Image { extent, bytes })
     }
 
     // The bytes of the image.
     pub fn into_bytes(self) -> Vec<u8>
         ensures { result ≡ self.bytes }
     {
-        let Image { extent: _, bytes } = self;
-        bytes
+        self.bytes
     }
 
     // The image to read only.

@@ -1,6 +1,5 @@
 // The image shelves.
-ghost use Rattle.std.specs.Prelude.{◌≡◌, ◌*◌, vec_len};
-ghost use Rattle.image.specs.Extents.{places_of};
+ghost use Rattle.std.specs.Prelude.{◌≡◌, ◌*◌, length, vec_len};
 
 use crate::extent::Extent;
 
@@ -9,6 +8,7 @@ use crate::extent::Extent;
 pub struct ImageView<'a> {
     pub(crate) extent: Extent,
     pub(crate) bytes: &'a [u8],
+    ghost full: { length bytes.now ≡ extent.cards * extent.blocks * 129 },
 }
 
 // A shelf that owns its bytes.
@@ -16,5 +16,5 @@ pub struct ImageView<'a> {
 pub struct Image {
     pub(crate) extent: Extent,
     pub(crate) bytes: Vec<u8>,
-    ghost full: { vec_len bytes ≡ places_of extent * 129 },
+    ghost full: { vec_len bytes ≡ extent.cards * extent.blocks * 129 },
 }
