@@ -1,10 +1,9 @@
 -- Parity that is behind at another index stays behind there after a write that took the quick path.
-use Rattle.std.specs.Prelude.{Some, None, Ok, Err}
+use Rattle.std.specs.Prelude.{Some, None, Ok}
 use Rattle.std.proofs.Common.{◌≡◌, ℕ, suc, ◌+◌, ◌*◌, ◌/◌, ◌%◌, ◌^◌, ◌<◌, ◌≤◌, Bool, true, false, cond, ltb, ◌⊎◌, List, [], get_or, sym, refl, ap, ◌∙◌, subst, ap₂, inl, inr, arith, pow_pos}
 use lib.Bits.{bit_xor, xor_lt}
 use Rattle.std.proofs.lemmas.Bool.{lt-ltb, ltb-true, cases_eq, cases_Bool, cond-true, cond-false}
 use Rattle.block.specs.Shapes.{Cell, Verdict}
-use Rattle.block.specs.declared.shapes.Defect.TheVariants.{Blind}
 use Rattle.block.specs.declared.shapes.Role.{Role}
 use Rattle.block.specs.declared.shapes.Role.TheVariants.{Parity, Data}
 use Rattle.block.specs.Judging.{Setup, alone}

@@ -1,5 +1,5 @@
 -- The laws of the 128 bytes hold of every array in range.
-use Rattle.std.proofs.Common.{◌≡◌, ℕ, ◌+◌, ◌^◌, ◌<◌, ◌≤◌, cond, eqb, ltb, List, get_or, ◌∙◌, arith}
+use Rattle.std.proofs.Common.{◌≡◌, ℕ, ◌^◌, ◌<◌, ◌≤◌, cond, eqb, ltb, List, get_or, ◌∙◌, arith}
 use lib.Lanes.{Each1}
 use Rattle.std.proofs.lemmas.List.FromFn.{get_or-map-range_with_len, length-map-range_with_len}
 use Rattle.std.proofs.lemmas.Simd.{Each1-from_get_or}
@@ -7,12 +7,12 @@ use Rattle.std.proofs.lemmas.Bool.{cond-true, cond-false, cond_both, lt-ltb, le-
 use Rattle.block.specs.declared.shapes.Role.TheVariants.{Parity, Data}
 use Rattle.block.specs.Judging.{Setup}
 use Rattle.block.specs.Layout.{table}
-use Rattle.block.specs.Places.{slot_of, parity_slot}
 use Rattle.runs.proofs.BlockLaws.{Plain, block_payload, block_byte, block_owner, block_version, block_readable, block_changed}
 use Rattle.stripe.specs.Renew.{data_version}
 use Rattle.runs.specs.Book.{Rec, Fits, data_of}
 use Rattle.runs.specs.Law.{InRange}
 use Rattle.runs.proofs.CodecLaws.{CodecLaws, parity_with}
+use Rattle.runs.proofs.Places.{slot_in}
 
 -- the numbers of a table are below m
 each_table : (n m : ℕ) (f : ℕ → ℕ) → ((i : ℕ) → f i < m) → Each1 (λ v. v < m) (table n f)
@@ -23,10 +23,6 @@ each_table n m f h =
 -- place i of a table
 get_d_table : (n : ℕ) (f : ℕ → ℕ) (i : ℕ) → i < n → get_or (table n f) i 0 ≡ f i
 get_d_table n f i h = get_or-map-range_with_len f 0 n i i 0 h (omega arith)
-
--- the slot of a data block fits a byte
-data_slot : (d s j : ℕ) → j < d → d ≤ 7 → slot_of d s (Data j) < 256
-data_slot d s j l m = cond_both (ltb j (parity_slot d s)) j (j + 1) (λ c. c < 256) (λ e. omega arith) (λ e. omega arith)
 
 -- version k of a parity block
 abbrev mirrored : ℕ → (ℕ → ℕ) → ℕ → ℕ
@@ -53,7 +49,7 @@ module _ (E : Setup) (G : InRange E) where
       seven = length-map-range_with_len (data_version r.version) 0 7;
       each = each_table 7 (2 ^ 32) (data_version r.version) (λ k. data_version_small r.version k f.versioned);
       block = omega (arith, G.many);
-      slot = data_slot E.D s j b G.slim;
+      slot = omega (arith, slot_in E s (Data j) b, G.slim);
       cards = omega (arith, G.slim);
       marked = G.marked;
       tagged = G.tagged;

@@ -1,5 +1,5 @@
 -- What is mended or given is exactly the block of the records.
-use Rattle.std.proofs.Common.{◌≡◌, ℕ, ◌+◌, ◌*◌, ◌<◌, ◌≤◌, Bool, true, false, cond, ltb, ◌⊎◌, List, get_or, Some, sym, refl, ap, ◌∙◌, subst, ap₂, inl, inr, arith}
+use Rattle.std.proofs.Common.{◌≡◌, ℕ, ◌+◌, ◌*◌, ◌<◌, ◌≤◌, Bool, true, false, cond, ltb, ◌⊎◌, List, get_or, Some, sym, refl, ap, ◌∙◌, subst, ap₂, inl, inr}
 use lib.Bits.{bit_xor, xor_zero_l}
 use Rattle.std.proofs.lemmas.Bool.{le-ltb, cases_lt, cases_Bool, false_from_ne_true, cond-true, cond-false}
 use Rattle.block.specs.declared.shapes.Role.{Role}

@@ -1,6 +1,6 @@
 -- The law over runs.
-use Rattle.std.specs.Prelude.{Some, Ok, Err}
-use Rattle.std.proofs.Common.{◌≡◌, ℕ, zero, suc, ◌+◌, ◌^◌, ◌<◌, true, cond, get_or, set, replicate, sym, refl, ◌∙◌, subst, pow_pos}
+use Rattle.std.specs.Prelude.{Ok, Err}
+use Rattle.std.proofs.Common.{◌≡◌, ℕ, zero, suc, ◌+◌, ◌^◌, ◌<◌, true, cond, get_or, set, replicate, refl, subst, pow_pos}
 use lib.ListN.{length-replicate}
 use Rattle.std.proofs.lemmas.Bool.{cond-true}
 use Rattle.block.specs.declared.shapes.Defect.TheVariants.{Broken, Foreign}

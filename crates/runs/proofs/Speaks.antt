@@ -46,7 +46,7 @@ use Rattle.runs.specs.Writes.{sent, data_write, parity_write}
 use Rattle.runs.proofs.Codec.{codec_laws, data_plain, parity_plain}
 use Rattle.runs.proofs.CodecLaws.{CodecLaws}
 use Rattle.runs.proofs.Decisions.{is_clean}
-use Rattle.runs.proofs.Fields.{Fine, Poor, row_small, owner_small, vers_small}
+use Rattle.runs.proofs.Fields.{row_small, owner_small, vers_small}
 use Rattle.runs.proofs.Masks.{Sorted, good_parity, fine_clear, poor_set}
 use Rattle.runs.proofs.Mending.{read_writes, cursor_lt, read_stays, scrub_stays}
 use Rattle.runs.proofs.Outcomes.{Accepted, write_outcome}

@@ -1,7 +1,6 @@
 -- A world of a run: what is judged is what the book says.
-use Rattle.std.specs.Prelude.{Err}
 use Rattle.std.proofs.Common.{◌≡◌, ℕ, ◌+◌, ◌*◌, ◌/◌, ◌%◌, ◌<◌, Bool, true, false, ◌⊎◌, [], refl, ap, ◌∙◌, subst, inl, inr, mod-lt, mul_comm, div-lt_iff_lt-mul, div-add-mod', arith}
-use Rattle.std.proofs.lemmas.Bool.{lt-ltb, cond-true, both_ways}
+use Rattle.std.proofs.lemmas.Bool.{lt-ltb, both_ways}
 use Rattle.block.specs.declared.shapes.Defect.TheVariants.{Blind, Broken, Foreign}
 use Rattle.block.specs.declared.shapes.Role.{Role}
 use Rattle.block.specs.declared.shapes.Role.TheVariants.{Parity, Data}
@@ -9,6 +8,7 @@ use Rattle.block.specs.Judging.{Setup, alone}
 use Rattle.block.specs.Places.{slot_of}
 use Rattle.stripe.specs.Judge.{bad_role}
 use Rattle.stripe.specs.View.{View, seen_at, has_role, view_of}
+use Rattle.stripe.proofs.Views.{view_in as view_of_role}
 use Rattle.runs.specs.Book.{Rec}
 use Rattle.runs.specs.Law.{InRange}
 use Rattle.runs.specs.Runs.{
@@ -55,9 +55,8 @@ module _ (E : Setup) (C : CodecLaws E) (w : World) (I : Starts E w) where
   f = w.book.records
 
   pub judged : (s : ℕ) (r : Role) → InStripe E r → view_in E w s r ≡ alone E s r (cell_of E w s r)
-  unfolding view_of
   judged s r i =
-      cond-true (has_role E.D r) _ (Err Blind) (has_role_lem E r i)
+      view_of_role E (w.shelf []) w.array.slots s r (has_role_lem E r i)
       ∙ ap (λ t. alone E s r (seen_at (w.shelf [] (slot_of E.D s r) s) t s)) (I.same (slot_of E.D s r))
 
   pub fine_good : (s : ℕ) (r : Role) → s < E.S → InStripe E r → Good E w s r → Fine E s f (view_in E w s) r
