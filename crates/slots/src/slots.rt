@@ -10,11 +10,7 @@ use stripe::SlotState;
 fn is_in(state: SlotState) -> bool
     ensures { result ≡ is_in state }
 {
-    match state {
-        SlotState::In => true,
-        SlotState::Out => false,
-        SlotState::Filling(_) => false,
-    }
+    matches!(state, SlotState::In)
 }
 
 // Each of the first slots is in.
