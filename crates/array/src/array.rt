@@ -1,17 +1,14 @@
 // The array itself.
-ghost use Rattle.std.specs.Prelude.{ℕ, ◌≤◌};
+ghost use Rattle.std.specs.Prelude.{ℕ};
 
+use shelf::{ReadableShelf, WritableShelf};
 use std::marker::PhantomData;
-use stripe::SlotState;
+use stripe::CardSet;
 
-// A shelf, the array's tag, the state of each slot, the stripe at which the next scrub starts, and the number of reads given rebuilt.
-// The numbers of cards and blocks are the shelf's.
-pub struct Array<W, C> {
-    pub(crate) shelf: W,
-    pub(crate) tag: u32,
-    pub(crate) states: [SlotState; 8],
+// The cards of an array, the stripe at which the next scrub starts, and the number of reads given rebuilt.
+pub struct Array<W: WritableShelf, C> {
+    pub(crate) cards: CardSet<W>,
     pub(crate) cursor: u32,
     pub(crate) tally: u32,
     pub(crate) sums: PhantomData<C>,
-    ghost tagged: { 1 ≤ tag },
 }

@@ -1,6 +1,6 @@
 // The calls that look at stripes: read, write, scrub, rebuild and look.
 ghost use Rattle.std.specs.Prelude.{◌≡◌};
-ghost use Rattle.stripe.specs.Survey.{setup_on};
+ghost use Rattle.block.specs.Judging.{setup};
 ghost use Rattle.stripe.specs.View.{slots_in};
 ghost use Rattle.runs.specs.Done.{ReadDone, WriteDone, ScrubDone, RebuildDone, LookDone};
 ghost use Rattle.runs.specs.Looks.{look_call};
@@ -33,18 +33,13 @@ impl<W: WritableShelf, C: Checksum> Array<W, C> {
         rebuilt: &mut [u8],
         findings: &mut [Finding; 8],
     ) -> Result<ReadAnswer, Refusal>
-        ensures done { ReadDone (read_call (setup_on (W.cards self.old.shelf) (W.blocks self.old.shelf) self.old.tag C.MARK C.meaning) (W.holds self.old.shelf) (slots_in self.old.states) self.old.tally address owner switch.now.mending found.old rebuilt.old findings.old) (W.conduct self.old.shelf) (W.conduct self.new.shelf) result found.new rebuilt.new findings.new self.new.tally }
-        ensures cards { W.cards self.new.shelf ≡ W.cards self.old.shelf }
-        ensures blocks { W.blocks self.new.shelf ≡ W.blocks self.old.shelf }
-        ensures tag { self.new.tag ≡ self.old.tag }
-        ensures states { self.new.states ≡ self.old.states }
+        ensures done { ReadDone (read_call (setup self.old.cards.frame C.MARK C.meaning) (W.holds self.old.cards.shelf) (slots_in self.old.cards.states) self.old.tally address owner switch.now.mending found.old rebuilt.old findings.old) (W.conduct self.old.cards.shelf) (W.conduct self.new.cards.shelf) result found.new rebuilt.new findings.new self.new.tally }
+        ensures frame { self.new.cards.frame ≡ self.old.cards.frame }
+        ensures states { self.new.cards.states ≡ self.old.cards.states }
         ensures cursor { self.new.cursor ≡ self.old.cursor }
     {
-        let frame = self.own_frame();
         read_call::<W, C>(
-            &mut self.shelf,
-            frame,
-            &self.states,
+            &mut self.cards,
             &mut self.tally,
             address,
             owner,
@@ -64,19 +59,14 @@ impl<W: WritableShelf, C: Checksum> Array<W, C> {
         way: Way,
         findings: &mut [Finding; 8],
     ) -> Result<WriteAnswer, Refusal>
-        ensures done { WriteDone (write_call (setup_on (W.cards self.old.shelf) (W.blocks self.old.shelf) self.old.tag C.MARK C.meaning) (W.holds self.old.shelf) (slots_in self.old.states) address payload.now owner way findings.old) (W.conduct self.old.shelf) (W.conduct self.new.shelf) result findings.new }
-        ensures cards { W.cards self.new.shelf ≡ W.cards self.old.shelf }
-        ensures blocks { W.blocks self.new.shelf ≡ W.blocks self.old.shelf }
-        ensures tag { self.new.tag ≡ self.old.tag }
-        ensures states { self.new.states ≡ self.old.states }
+        ensures done { WriteDone (write_call (setup self.old.cards.frame C.MARK C.meaning) (W.holds self.old.cards.shelf) (slots_in self.old.cards.states) address payload.now owner way findings.old) (W.conduct self.old.cards.shelf) (W.conduct self.new.cards.shelf) result findings.new }
+        ensures frame { self.new.cards.frame ≡ self.old.cards.frame }
+        ensures states { self.new.cards.states ≡ self.old.cards.states }
         ensures cursor { self.new.cursor ≡ self.old.cursor }
         ensures tally { self.new.tally ≡ self.old.tally }
     {
-        let frame = self.own_frame();
         write_call::<W, C>(
-            &mut self.shelf,
-            frame,
-            &self.states,
+            &mut self.cards,
             address,
             owner,
             payload,
@@ -92,19 +82,14 @@ impl<W: WritableShelf, C: Checksum> Array<W, C> {
         stripes: u32,
         findings: &mut [Finding; 8],
     ) -> Result<ScrubCounts, Refusal>
-        ensures answer { result ≡ scrub_answer (setup_on (W.cards self.old.shelf) (W.blocks self.old.shelf) self.old.tag C.MARK C.meaning) (W.conduct self.old.shelf) (slots_in self.old.states) self.old.cursor stripes findings.old }
-        ensures done { ScrubDone (scrub_end (setup_on (W.cards self.old.shelf) (W.blocks self.old.shelf) self.old.tag C.MARK C.meaning) (W.conduct self.old.shelf) (slots_in self.old.states) self.old.cursor stripes findings.old) (W.conduct self.new.shelf) self.new.cursor findings.new }
-        ensures cards { W.cards self.new.shelf ≡ W.cards self.old.shelf }
-        ensures blocks { W.blocks self.new.shelf ≡ W.blocks self.old.shelf }
-        ensures tag { self.new.tag ≡ self.old.tag }
-        ensures states { self.new.states ≡ self.old.states }
+        ensures answer { result ≡ scrub_answer (setup self.old.cards.frame C.MARK C.meaning) (W.conduct self.old.cards.shelf) (slots_in self.old.cards.states) self.old.cursor stripes findings.old }
+        ensures done { ScrubDone (scrub_end (setup self.old.cards.frame C.MARK C.meaning) (W.conduct self.old.cards.shelf) (slots_in self.old.cards.states) self.old.cursor stripes findings.old) (W.conduct self.new.cards.shelf) self.new.cursor findings.new }
+        ensures frame { self.new.cards.frame ≡ self.old.cards.frame }
+        ensures states { self.new.cards.states ≡ self.old.cards.states }
         ensures tally { self.new.tally ≡ self.old.tally }
     {
-        let frame = self.own_frame();
         scrub_call::<W, C>(
-            &mut self.shelf,
-            frame,
-            &self.states,
+            &mut self.cards,
             &mut self.cursor,
             stripes,
             findings,
@@ -113,19 +98,14 @@ impl<W: WritableShelf, C: Checksum> Array<W, C> {
 
     // Rebuilds at most so many stripes of the job's slot, from where it stands.
     pub fn rebuild(&mut self, job: &RebuildJob, stripes: u32) -> Result<RebuildCounts, Refusal>
-        ensures answer { result ≡ rebuild_answer (setup_on (W.cards self.old.shelf) (W.blocks self.old.shelf) self.old.tag C.MARK C.meaning) (W.conduct self.old.shelf) (slots_in self.old.states) job.now.slot stripes }
-        ensures done { RebuildDone (rebuild_end (setup_on (W.cards self.old.shelf) (W.blocks self.old.shelf) self.old.tag C.MARK C.meaning) (W.conduct self.old.shelf) (slots_in self.old.states) job.now.slot stripes) (W.conduct self.new.shelf) (slots_in self.new.states) }
-        ensures cards { W.cards self.new.shelf ≡ W.cards self.old.shelf }
-        ensures blocks { W.blocks self.new.shelf ≡ W.blocks self.old.shelf }
-        ensures tag { self.new.tag ≡ self.old.tag }
+        ensures answer { result ≡ rebuild_answer (setup self.old.cards.frame C.MARK C.meaning) (W.conduct self.old.cards.shelf) (slots_in self.old.cards.states) job.now.slot stripes }
+        ensures done { RebuildDone (rebuild_end (setup self.old.cards.frame C.MARK C.meaning) (W.conduct self.old.cards.shelf) (slots_in self.old.cards.states) job.now.slot stripes) (W.conduct self.new.cards.shelf) (slots_in self.new.cards.states) }
+        ensures frame { self.new.cards.frame ≡ self.old.cards.frame }
         ensures cursor { self.new.cursor ≡ self.old.cursor }
         ensures tally { self.new.tally ≡ self.old.tally }
     {
-        let frame = self.own_frame();
         rebuild_call::<W, C>(
-            &mut self.shelf,
-            frame,
-            &mut self.states,
+            &mut self.cards,
             job.slot(),
             stripes,
         )
@@ -141,20 +121,17 @@ impl<W: WritableShelf, C: Checksum> Array<W, C> {
         switch: &mut Switch,
         out: &mut [u8],
     ) -> Result<LookAnswer, Refusal>
-        ensures done { LookDone (look_call (setup_on (W.cards self.old.shelf) (W.blocks self.old.shelf) self.old.tag C.MARK C.meaning) (W.holds self.old.shelf) (slots_in self.old.states) self.old.tally first count owner out.old) result out.new self.new.tally }
+        ensures done { LookDone (look_call (setup self.old.cards.frame C.MARK C.meaning) (W.holds self.old.cards.shelf) (slots_in self.old.cards.states) self.old.tally first count owner out.old) result out.new self.new.tally }
         ensures switch { switch.new ≡ switch.old }
-        ensures shelf { self.new.shelf ≡ self.old.shelf }
-        ensures tag { self.new.tag ≡ self.old.tag }
-        ensures states { self.new.states ≡ self.old.states }
+        ensures shelf { self.new.cards.shelf ≡ self.old.cards.shelf }
+        ensures frame { self.new.cards.frame ≡ self.old.cards.frame }
+        ensures states { self.new.cards.states ≡ self.old.cards.states }
         ensures cursor { self.new.cursor ≡ self.old.cursor }
     {
         let was = turn_off(switch);
         let _guard = MendingOff { switch, was };
-        let frame = self.own_frame();
         let answer = look_call::<W, C>(
-            &self.shelf,
-            frame,
-            &self.states,
+            &self.cards.view(),
             &mut self.tally,
             first,
             count,

@@ -1,12 +1,12 @@
 // Slot events of an array: pull, fit, finish and give-up.
 ghost use Rattle.std.specs.Prelude.{◌≡◌};
-ghost use Rattle.stripe.specs.Survey.{setup_on};
+ghost use Rattle.block.specs.Judging.{setup};
 ghost use Rattle.stripe.specs.View.{slots_in};
 ghost use Rattle.runs.specs.Slots.{event_state, event_slots, answered};
 ghost use Rattle.array.specs.Jobs.{job_of, finish_answer};
 
 use crate::array::Array;
-use block::Refusal;
+use block::{HandedBack, Refusal};
 use checksum::Checksum;
 use runs::Event;
 use shelf::{ReadableShelf, WritableShelf};
@@ -26,35 +26,29 @@ impl RebuildJob {
     }
 }
 
-// A job whose finish was refused, handed back.
-pub struct RefusedJob {
-    pub refusal: Refusal,
-    pub job: RebuildJob,
-}
-
 impl<W: WritableShelf, C: Checksum> Array<W, C> {
     // An event of a slot, on this shelf. A slot that the shelf has not is refused first.
     fn turn(&mut self, slot: u32, event: Event) -> Result<(), Refusal>
-        ensures answer { result ≡ answered tt (event_state (setup_on (W.cards self.old.shelf) (W.blocks self.old.shelf) self.old.tag C.MARK C.meaning) (slots_in self.old.states) slot event) }
-        ensures slots { slots_in self.new.states ≡ event_slots (setup_on (W.cards self.old.shelf) (W.blocks self.old.shelf) self.old.tag C.MARK C.meaning) (slots_in self.old.states) slot event }
-        ensures shelf { self.new.shelf ≡ self.old.shelf }
-        ensures tag { self.new.tag ≡ self.old.tag }
+        ensures answer { result ≡ answered tt (event_state (setup self.old.cards.frame C.MARK C.meaning) (slots_in self.old.cards.states) slot event) }
+        ensures slots { slots_in self.new.cards.states ≡ event_slots (setup self.old.cards.frame C.MARK C.meaning) (slots_in self.old.cards.states) slot event }
+        ensures shelf { self.new.cards.shelf ≡ self.old.cards.shelf }
+        ensures frame { self.new.cards.frame ≡ self.old.cards.frame }
         ensures cursor { self.new.cursor ≡ self.old.cursor }
         ensures tally { self.new.tally ≡ self.old.tally }
     {
-        let frame = self.own_frame();
+        let frame = self.cards.frame;
         if slot > frame.width {
             return Err(Refusal::Place);
         }
-        turn_slot(&mut self.states, frame, slot, event)
+        turn_slot(&mut self.cards.states, frame, slot, event)
     }
 
     // Takes a card out, if every slot is in.
     pub fn pull(&mut self, slot: u32) -> Result<(), Refusal>
-        ensures answer { result ≡ answered tt (event_state (setup_on (W.cards self.old.shelf) (W.blocks self.old.shelf) self.old.tag C.MARK C.meaning) (slots_in self.old.states) slot Event.Pull) }
-        ensures slots { slots_in self.new.states ≡ event_slots (setup_on (W.cards self.old.shelf) (W.blocks self.old.shelf) self.old.tag C.MARK C.meaning) (slots_in self.old.states) slot Event.Pull }
-        ensures shelf { self.new.shelf ≡ self.old.shelf }
-        ensures tag { self.new.tag ≡ self.old.tag }
+        ensures answer { result ≡ answered tt (event_state (setup self.old.cards.frame C.MARK C.meaning) (slots_in self.old.cards.states) slot Event.Pull) }
+        ensures slots { slots_in self.new.cards.states ≡ event_slots (setup self.old.cards.frame C.MARK C.meaning) (slots_in self.old.cards.states) slot Event.Pull }
+        ensures shelf { self.new.cards.shelf ≡ self.old.cards.shelf }
+        ensures frame { self.new.cards.frame ≡ self.old.cards.frame }
         ensures cursor { self.new.cursor ≡ self.old.cursor }
         ensures tally { self.new.tally ≡ self.old.tally }
     {
@@ -63,25 +57,23 @@ impl<W: WritableShelf, C: Checksum> Array<W, C> {
 
     // Puts a card into a slot that is out, to be filled from block 0 on; answers the job.
     pub fn fit(&mut self, slot: u32) -> Result<RebuildJob, Refusal>
-        ensures answer { result ≡ answered (job_of slot) (event_state (setup_on (W.cards self.old.shelf) (W.blocks self.old.shelf) self.old.tag C.MARK C.meaning) (slots_in self.old.states) slot Event.Fit) }
-        ensures slots { slots_in self.new.states ≡ event_slots (setup_on (W.cards self.old.shelf) (W.blocks self.old.shelf) self.old.tag C.MARK C.meaning) (slots_in self.old.states) slot Event.Fit }
-        ensures shelf { self.new.shelf ≡ self.old.shelf }
-        ensures tag { self.new.tag ≡ self.old.tag }
+        ensures answer { result ≡ answered (job_of slot) (event_state (setup self.old.cards.frame C.MARK C.meaning) (slots_in self.old.cards.states) slot Event.Fit) }
+        ensures slots { slots_in self.new.cards.states ≡ event_slots (setup self.old.cards.frame C.MARK C.meaning) (slots_in self.old.cards.states) slot Event.Fit }
+        ensures shelf { self.new.cards.shelf ≡ self.old.cards.shelf }
+        ensures frame { self.new.cards.frame ≡ self.old.cards.frame }
         ensures cursor { self.new.cursor ≡ self.old.cursor }
         ensures tally { self.new.tally ≡ self.old.tally }
     {
-        match self.turn(slot, Event::Fit) {
-            Ok(()) => Ok(RebuildJob { slot }),
-            Err(refusal) => Err(refusal),
-        }
+        self.turn(slot, Event::Fit)?;
+        Ok(RebuildJob { slot })
     }
 
     // Ends a job whose slot is filled to the last block: the card is in. A refused finish hands the job back.
-    pub fn finish(&mut self, job: RebuildJob) -> Result<(), RefusedJob>
-        ensures answer { result ≡ finish_answer tt job (event_state (setup_on (W.cards self.old.shelf) (W.blocks self.old.shelf) self.old.tag C.MARK C.meaning) (slots_in self.old.states) job.slot Event.Finish) }
-        ensures slots { slots_in self.new.states ≡ event_slots (setup_on (W.cards self.old.shelf) (W.blocks self.old.shelf) self.old.tag C.MARK C.meaning) (slots_in self.old.states) job.slot Event.Finish }
-        ensures shelf { self.new.shelf ≡ self.old.shelf }
-        ensures tag { self.new.tag ≡ self.old.tag }
+    pub fn finish(&mut self, job: RebuildJob) -> Result<(), HandedBack<RebuildJob>>
+        ensures answer { result ≡ finish_answer tt job (event_state (setup self.old.cards.frame C.MARK C.meaning) (slots_in self.old.cards.states) job.slot Event.Finish) }
+        ensures slots { slots_in self.new.cards.states ≡ event_slots (setup self.old.cards.frame C.MARK C.meaning) (slots_in self.old.cards.states) job.slot Event.Finish }
+        ensures shelf { self.new.cards.shelf ≡ self.old.cards.shelf }
+        ensures frame { self.new.cards.frame ≡ self.old.cards.frame }
         ensures cursor { self.new.cursor ≡ self.old.cursor }
         ensures tally { self.new.tally ≡ self.old.tally }
     {
@@ -90,16 +82,19 @@ impl<W: WritableShelf, C: Checksum> Array<W, C> {
                 let RebuildJob { slot: _ } = job;
                 Ok(())
             }
-            Err(refusal) => Err(RefusedJob { refusal, job }),
+            Err(refusal) => Err(HandedBack {
+                refusal,
+                value: job,
+            }),
         }
     }
 
     // Ends a job, even where it is refused: the card is out.
     pub fn give_up(&mut self, job: RebuildJob) -> Result<(), Refusal>
-        ensures answer { result ≡ answered tt (event_state (setup_on (W.cards self.old.shelf) (W.blocks self.old.shelf) self.old.tag C.MARK C.meaning) (slots_in self.old.states) job.slot Event.GiveUp) }
-        ensures slots { slots_in self.new.states ≡ event_slots (setup_on (W.cards self.old.shelf) (W.blocks self.old.shelf) self.old.tag C.MARK C.meaning) (slots_in self.old.states) job.slot Event.GiveUp }
-        ensures shelf { self.new.shelf ≡ self.old.shelf }
-        ensures tag { self.new.tag ≡ self.old.tag }
+        ensures answer { result ≡ answered tt (event_state (setup self.old.cards.frame C.MARK C.meaning) (slots_in self.old.cards.states) job.slot Event.GiveUp) }
+        ensures slots { slots_in self.new.cards.states ≡ event_slots (setup self.old.cards.frame C.MARK C.meaning) (slots_in self.old.cards.states) job.slot Event.GiveUp }
+        ensures shelf { self.new.cards.shelf ≡ self.old.cards.shelf }
+        ensures frame { self.new.cards.frame ≡ self.old.cards.frame }
         ensures cursor { self.new.cursor ≡ self.old.cursor }
         ensures tally { self.new.tally ≡ self.old.tally }
     {

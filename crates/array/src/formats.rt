@@ -7,28 +7,21 @@ ghost use Rattle.runs.specs.Formats.{format_writes};
 ghost use Rattle.runs.specs.Law.{FormatLaw};
 
 use crate::array::Array;
-use crate::opening::{RefusedShelf, fresh_array};
-use block::Refusal;
+use block::{HandedBack, Refusal};
 use checksum::Checksum;
-use formatting::format_shelf;
+use formatting::format_cards;
 use shelf::{ReadableShelf, WritableShelf};
 
 impl<W: WritableShelf, C: Checksum> Array<W, C> {
     // A new array: every place of the shelf is written in slot and block order with zero payload, owner 0 and versions 0.
     // All slots are in, cursor and tally are 0. A tag of 0 is refused, and then no card is touched.
     // Whatever the cards made of the writes, the law over runs holds of every run from here on.
-    pub fn format(shelf: W, tag: u32) -> Result<Array<W, C>, RefusedShelf<W>>
-        ensures answer { MatchResult result (λ a. (1 ≤ tag) × (W.conduct a.shelf ≡ after_all (W.conduct shelf) (format_writes (setup_on (W.cards shelf) (W.blocks shelf) tag C.MARK C.meaning))) × (W.cards a.shelf ≡ W.cards shelf) × (W.blocks a.shelf ≡ W.blocks shelf) × (a.tag ≡ tag) × (slots_in a.states ≡ all_in) × (a.cursor ≡ 0) × (a.tally ≡ 0)) (λ e. (tag ≡ 0) × (e.refusal ≡ Refusal.Shape) × (e.shelf ≡ shelf)) }
-        ensures law { IfOk result (λ a. FormatLaw (setup_on (W.cards shelf) (W.blocks shelf) tag C.MARK C.meaning) (W.conduct a.shelf)) }
+    pub fn format(shelf: W, tag: u32) -> Result<Array<W, C>, HandedBack<W>>
+        ensures answer { MatchResult result (λ a. (1 ≤ tag) × (W.conduct a.cards.shelf ≡ after_all (W.conduct shelf) (format_writes (setup_on (W.cards shelf) (W.blocks shelf) tag C.MARK C.meaning))) × (W.cards a.cards.shelf ≡ W.cards shelf) × (W.blocks a.cards.shelf ≡ W.blocks shelf) × (a.cards.frame.tag ≡ tag) × (slots_in a.cards.states ≡ all_in) × (a.cursor ≡ 0) × (a.tally ≡ 0)) (λ e. (tag ≡ 0) × (e.refusal ≡ Refusal.Shape) × (e.value ≡ shelf)) }
+        ensures law { IfOk result (λ a. FormatLaw (setup_on (W.cards shelf) (W.blocks shelf) tag C.MARK C.meaning) (W.conduct a.cards.shelf)) }
     {
-        if tag == 0 {
-            return Err(RefusedShelf {
-                refusal: Refusal::Shape,
-                shelf,
-            });
-        }
-        let mut cards = shelf;
-        format_shelf::<W, C>(&mut cards, tag);
-        Ok(fresh_array(cards, tag))
+        let mut array = Array::open(shelf, tag)?;
+        format_cards::<W, C>(&mut array.cards);
+        Ok(array)
     }
 }

@@ -6,11 +6,9 @@ mod calls;
 mod damage;
 mod events;
 mod formats;
-mod frames;
 mod guard;
 mod opening;
 
 pub use array::Array;
-pub use events::{RebuildJob, RefusedJob};
-pub use opening::RefusedShelf;
+pub use events::RebuildJob;
 pub use reading::show;

@@ -11,6 +11,6 @@ mod spot;
 
 pub use codec::{decode, encode, owner, seal, version};
 pub use frame::Frame;
-pub use refusal::Refusal;
+pub use refusal::{HandedBack, Refusal};
 pub use shapes::{Cell, Defect, Fields, Place, Position, Record, Role, Verdict};
 pub use spot::{DataSpot, Spot};

@@ -44,3 +44,10 @@ impl fmt::Display for Refusal {
         write!(f, "{number}")
     }
 }
+
+// A refusal, and what the refused call was given, handed back.
+#[derive(Debug, Drop)]
+pub struct HandedBack<T> {
+    pub refusal: Refusal,
+    pub value: T,
+}

@@ -5,12 +5,12 @@ use Rattle.block.specs.declared.refusal.Refusal.{Refusal}
 use Rattle.block.specs.declared.refusal.Refusal.TheVariants.{Shape}
 use Rattle.image.specs.declared.failures.MakeError.{MakeError}
 use Rattle.image.specs.declared.failures.MakeError.TheVariants.{Refused, NoMemory}
-use Rattle.image.specs.declared.failures.RefusedImage.{RefusedImage}
+use Rattle.block.specs.declared.refusal.HandedBack.{HandedBack}
 use Rattle.image.specs.Extents.{shape_fits}
 
 -- the refused bytes with the refusal
-abbrev pub handed_back : Vec ℕ Global → Refusal → RefusedImage
-handed_back bytes refusal = record { refusal = refusal; bytes = bytes }
+abbrev pub handed_back : Vec ℕ Global → Refusal → HandedBack (Vec ℕ Global)
+handed_back bytes refusal = record { refusal = refusal; value = bytes }
 
 -- why no new image of n cards with s blocks is made, but for want of memory
 abbrev pub make_refusal : ℕ → ℕ → Option Refusal

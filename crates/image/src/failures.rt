@@ -5,13 +5,6 @@ ghost use Rattle.image.specs.declared.failures.MakeError.TheVariants.{Refused, N
 use block::Refusal;
 use std::alloc::AllocError;
 
-// Bytes that are no image, handed back.
-#[derive(Debug, Drop)]
-pub struct RefusedImage {
-    pub refusal: Refusal,
-    pub bytes: Vec<u8>,
-}
-
 // Why no new image was made.
 #[derive(Clone, Copy, Debug)]
 pub enum MakeError {

@@ -9,5 +9,5 @@ mod place;
 mod shapes;
 mod view;
 
-pub use failures::{MakeError, RefusedImage};
+pub use failures::MakeError;
 pub use shapes::{Image, ImageView};

@@ -10,9 +10,9 @@ ghost use Rattle.image.specs.contracts.image.ImageWritableShelf.TheImpl.{ghosts 
 ghost use Rattle.image.specs.contracts.view.ImageViewReadableShelf.TheImpl.{ghosts as viewed};
 
 use crate::extent::Extent;
-use crate::failures::{MakeError, RefusedImage};
+use crate::failures::MakeError;
 use crate::shapes::{Image, ImageView};
-use block::Refusal;
+use block::{HandedBack, Refusal};
 use std::alloc::Global;
 
 impl<'a> ImageView<'a> {
@@ -30,7 +30,7 @@ impl<'a> ImageView<'a> {
 
 impl Image {
     // The shelf of so many cards and blocks with these bytes, which does every write as told. Bytes that are none are handed back.
-    pub fn open(cards: u32, blocks: u32, bytes: Vec<u8>) -> Result<Image, RefusedImage>
+    pub fn open(cards: u32, blocks: u32, bytes: Vec<u8>) -> Result<Image, HandedBack<Vec<u8>>>
         ensures refusal { result_err result ≡ option_map (handed_back bytes) (open_refusal cards blocks bytes.items) }
         ensures shape { IfOk result (λ i. (readable.cards i ≡ cards) × (readable.blocks i ≡ blocks)) }
         ensures holds { IfOk result (λ i. readable.holds i ≡ content_of cards blocks bytes.items) }
@@ -39,7 +39,10 @@ impl Image {
     {
         match Extent::of_image(cards, blocks, bytes.as_slice()) {
             Ok(extent) => Ok(Image { extent, bytes }),
-            Err(refusal) => Err(RefusedImage { refusal, bytes }),
+            Err(refusal) => Err(HandedBack {
+                refusal,
+                value: bytes,
+            }),
         }
     }
 
