@@ -1,3 +1,3 @@
-mod Fronts
 mod Sights
 mod Torn
+mod Searches

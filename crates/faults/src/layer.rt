@@ -84,7 +84,7 @@ impl<W: WritableShelf> FaultLayer<W> {
         if !self.has(slot, block) {
             return Err(Refusal::Place);
         }
-        if self.table.is_marked(slot, block) {
+        if self.table.is_marked(Place { slot, block }) {
             return Ok(());
         }
         self.table.add(Row::Mark(Place { slot, block }))
@@ -96,7 +96,7 @@ impl<W: WritableShelf> FaultLayer<W> {
         requires block_within { block < W.blocks self.now.shelf }
         ensures { result ≡ screened (rows_of self.now.table) (W.holds self.now.shelf) slot block }
     {
-        if self.table.is_marked(slot, block) {
+        if self.table.is_marked(Place { slot, block }) {
             None
         } else {
             fetch(&self.shelf, slot, block)
@@ -188,9 +188,9 @@ impl<W: WritableShelf> FaultLayer<W> {
         ensures cards { W.cards self.new.shelf ≡ W.cards self.old.shelf }
         ensures blocks { W.blocks self.new.shelf ≡ W.blocks self.old.shelf }
     {
-        let found = self.table.plan_for(slot, block);
+        let found = self.table.plan_for(Place { slot, block });
         self.hand_down(slot, block, bytes, found);
-        self.table.pass(found, slot, block);
+        self.table.pass(found, Place { slot, block });
     }
 
     // A write through the layer. A refused write uses no plan.
@@ -256,7 +256,7 @@ impl<W: WritableShelf> ReadableShelf for FaultLayer<W> {
 
     // A marked place is blind; any other is as the shelf below shows it.
     fn read(&self, slot: u32, block: u32, buf: &mut [u8]) -> Result<Sight, Refusal> {
-        if !self.table.is_marked(slot, block) {
+        if !self.table.is_marked(Place { slot, block }) {
             return self.shelf.read(slot, block, buf);
         }
         if buf.len() != 128 {
