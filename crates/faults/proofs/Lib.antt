@@ -1,3 +1,1 @@
-mod Sights
-mod Torn
 mod Searches

@@ -7,5 +7,5 @@ use Rattle.faults.proofs.table.Table.unmark.Goals as goal
 pub returns : goal.returns
 returns c =
     let place = c.args.place in
-    filter-from_retain _ (λ r. not (is_mark place.slot place.block r)) _ (λ x b f' y called. search rules) _ _ c.retain.ensures.filtered
+    filter-from_retain _ (λ r. not (is_mark place.slot place.block r)) _ (λ x b f' y called. search rules) c.args.self.now.rows.items c.retain.new.self.items c.retain.ensures.filtered
     ∙ unmarked_filter place.slot place.block c.args.self.now.rows.items
