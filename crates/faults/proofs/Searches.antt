@@ -1,7 +1,8 @@
 -- What the searches in the rows give.
-use Rattle.std.specs.Prelude.{◌≡◌, ℕ, zero, suc, ◌+◌, ◌<◌, Bool, true, false, cond, not, ◌||◌, List, [], ◌∷◌, length, filter, Some, None, Option, MatchOption, slice_index_or, refl}
+use Rattle.std.specs.Prelude.{◌≡◌, ℕ, zero, suc, ◌+◌, ◌<◌, not, List, [], ◌∷◌, length, filter, Some, None, Option, MatchOption, slice_index_or, refl}
 use Rattle.std.proofs.Common.{sym, ap, ◌∙◌, le_of_suc-le-suc, arith}
 use Rattle.std.specs.List.{list_any}
+use Rattle.std.proofs.lemmas.Bool.Decides.{nat_tests}
 use Rattle.faults.specs.declared.rows.Row.{Row}
 use Rattle.faults.specs.declared.table.Found.{Found}
 use Rattle.faults.specs.Rows.{no_row, is_mark, plan_at, found_at, plan_from, plan_for, marked, unmarked}
@@ -9,19 +10,11 @@ use Rattle.faults.specs.Rows.{no_row, is_mark, plan_at, found_at, plan_from, pla
 module _ (i j : ℕ) where
   pub marked_any : (rows : List Row) → list_any (is_mark i j) rows ≡ marked i j rows
   marked_any [] = refl
-  marked_any (r ∷ rows) = go (is_mark i j r) (marked_any rows)
-    where
-      go : (b : Bool) → list_any (is_mark i j) rows ≡ marked i j rows → (b || list_any (is_mark i j) rows) ≡ cond b true (marked i j rows)
-      go true later = refl
-      go false later = later
+  marked_any (r ∷ rows) = grind (arith, nat_tests, marked_any rows)
 
   pub unmarked_filter : (rows : List Row) → filter (λ r. not (is_mark i j r)) rows ≡ unmarked i j rows
   unmarked_filter [] = refl
-  unmarked_filter (r ∷ rows) = go (is_mark i j r) (unmarked_filter rows)
-    where
-      go : (b : Bool) → filter (λ r. not (is_mark i j r)) rows ≡ unmarked i j rows → cond (not b) (r ∷ filter (λ r. not (is_mark i j r)) rows) (filter (λ r. not (is_mark i j r)) rows) ≡ cond b (unmarked i j rows) (r ∷ unmarked i j rows)
-      go true later = later
-      go false later = ap (λ rs. r ∷ rs) later
+  unmarked_filter (r ∷ rows) = grind (arith, nat_tests, unmarked_filter rows)
 
   -- no row below index m has a plan for the place
   abbrev pub NoneBelow : ℕ → List Row → Type 0

@@ -98,8 +98,8 @@ impl Table {
             Plan::Stray(target) => {
                 self.free(found.index);
                 self.unmark(Place {
-                    slot: place.slot,
                     block: target,
+                    ..place
                 });
             }
         }
