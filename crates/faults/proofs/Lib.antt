@@ -1,3 +1,1 @@
-mod Fronts
-mod Sights
-mod Torn
+mod Searches

@@ -5,10 +5,10 @@
 // spoil leaves a mark on the place. Tear writes the first bytes and leaves the old rest, and nothing where the
 // place is blind. Stray writes straight to another block of the card, whose plans it does not use and whose
 // mark goes. A marked place is blind until a write is passed to it.
-ghost use Rattle.std.specs.Prelude.{◌≡◌, ◌<◌, ◌≤◌, [], length};
+ghost use Rattle.std.specs.Prelude.{◌≡◌, true, false, [], length, MatchResult};
 ghost use Rattle.shelf.specs.Model.{after_all, inside, write_of, write_answer, writes_taken};
-ghost use Rattle.faults.specs.Faults.{screened, torn, flipped, lay_answer, lay_rows, blind_answer, blind_rows, flip_answer, flip_writes, torn_writes, planned_writes, writes_by, passed, rows_after, fault_conduct, screened_sized};
-ghost use Rattle.faults.specs.Rows.{plan_for, rows_by};
+ghost use Rattle.faults.specs.Faults.{screened, torn, lay_answer, lay_rows, blind_answer, blind_rows, flip_answer, flip_writes, torn_writes, writes_by, passed, rows_after, fault_conduct, screened_sized};
+ghost use Rattle.faults.specs.Rows.{place_of};
 ghost use Rattle.faults.specs.Tables.{rows_of};
 ghost use Rattle.faults.specs.Conducts.{fault_own};
 ghost use Rattle.std.proofs.Common.{rules};
@@ -41,8 +41,7 @@ impl<W> FaultLayer<W> {
     pub fn into_inner(self) -> W
         ensures { result ≡ self.shelf }
     {
-        let FaultLayer { shelf, table: _ } = self;
-        shelf
+        self.shelf
     }
 
     // How many of the 32 rows are in use.
@@ -54,11 +53,15 @@ impl<W> FaultLayer<W> {
 }
 
 impl<W: WritableShelf> FaultLayer<W> {
-    // The shelf has the place.
-    fn has(&self, slot: u32, block: u32) -> bool
-        ensures { result ≡ inside (W.cards self.now.shelf) (W.blocks self.now.shelf) slot block }
+    // The place, of a shelf that has it.
+    fn place(&self, slot: u32, block: u32) -> Result<Place, Refusal>
+        ensures { MatchResult result (λ p. (inside (W.cards self.now.shelf) (W.blocks self.now.shelf) slot block ≡ true) × (p ≡ place_of slot block)) (λ e. (inside (W.cards self.now.shelf) (W.blocks self.now.shelf) slot block ≡ false) × (e ≡ Refusal.Place)) }
     {
-        slot < self.shelf.card_count() && block < self.shelf.block_count()
+        if slot < self.shelf.card_count() && block < self.shelf.block_count() {
+            Ok(Place { slot, block })
+        } else {
+            Err(Refusal::Place)
+        }
     }
 
     // Plans a fault for a write to the place, after the plans that are there. What is out of range is
@@ -68,11 +71,11 @@ impl<W: WritableShelf> FaultLayer<W> {
         ensures rows { rows_of self.new.table ≡ lay_rows (W.cards self.old.shelf) (W.blocks self.old.shelf) (rows_of self.old.table) slot block plan }
         ensures shelf { self.new.shelf ≡ self.old.shelf }
     {
-        if self.has(slot, block) && plan.fits(block, self.shelf.block_count()) {
-            self.table.add(Row::Planned(Place { slot, block }, plan))
-        } else {
-            Err(Refusal::Place)
+        let place = self.place(slot, block)?;
+        if !plan.fits(block, self.shelf.block_count()) {
+            return Err(Refusal::Place);
         }
+        self.table.add(Row::Planned(place, plan))
     }
 
     // Marks the place: it is blind until a write is passed to it. A second mark takes no row.
@@ -81,26 +84,22 @@ impl<W: WritableShelf> FaultLayer<W> {
         ensures rows { rows_of self.new.table ≡ blind_rows (W.cards self.old.shelf) (W.blocks self.old.shelf) (rows_of self.old.table) slot block }
         ensures shelf { self.new.shelf ≡ self.old.shelf }
     {
-        if !self.has(slot, block) {
-            return Err(Refusal::Place);
-        }
-        if self.table.is_marked(slot, block) {
+        let place = self.place(slot, block)?;
+        if self.table.is_marked(place) {
             return Ok(());
         }
-        self.table.add(Row::Mark(Place { slot, block }))
+        self.table.add(Row::Mark(place))
     }
 
     // What the layer shows of a place that the shelf has.
-    fn shown(&self, slot: u32, block: u32) -> Cell
-        requires slot_within { slot < W.cards self.now.shelf }
-        requires block_within { block < W.blocks self.now.shelf }
-        ensures { result ≡ screened (rows_of self.now.table) (W.holds self.now.shelf) slot block }
+    fn shown(&self, place: Place) -> Cell
+        requires { inside (W.cards self.now.shelf) (W.blocks self.now.shelf) place.slot place.block ≡ true }
+        ensures { result ≡ screened (rows_of self.now.table) (W.holds self.now.shelf) place.slot place.block }
     {
-        if self.table.is_marked(slot, block) {
-            None
-        } else {
-            fetch(&self.shelf, slot, block)
+        if self.table.is_marked(place) {
+            return None;
         }
+        fetch(&self.shelf, place.slot, place.block)
     }
 
     // Flips the bits of the mask in one byte of a place; a blind place stays as it is. No plan is used.
@@ -111,130 +110,49 @@ impl<W: WritableShelf> FaultLayer<W> {
         ensures cards { W.cards self.new.shelf ≡ W.cards self.old.shelf }
         ensures blocks { W.blocks self.new.shelf ≡ W.blocks self.old.shelf }
     {
-        if !(self.has(slot, block) && index <= 127 && mask >= 1 && mask <= 255) {
+        let place = self.place(slot, block)?;
+        if index > 127 || !(1..=255).contains(&mask) {
             return Err(Refusal::Place);
         }
-        if let Some(bytes) = self.shown(slot, block) {
-            store(
-                &mut self.shelf,
-                slot,
-                block,
-                &flipped_block(bytes, index, mask),
-            );
+        if let Some(mut bytes) = self.shown(place) {
+            bytes[index as usize] ^= mask as u8;
+            store(&mut self.shelf, slot, block, &bytes);
         }
         Ok(())
     }
 
     // Hands down the first bytes of a write, with the old rest; nothing to a blind place.
-    fn tear(&mut self, slot: u32, block: u32, bytes: &[u8], kept: u32)
-        requires slot_within { slot < W.cards self.old.shelf }
-        requires block_within { block < W.blocks self.old.shelf }
-        requires whole { length bytes.now ≡ 128 }
-        ensures below { W.conduct self.new.shelf ≡ after_all (W.conduct self.old.shelf) (torn_writes slot block kept bytes.now (screened (rows_of self.old.table) (W.holds self.old.shelf) slot block)) }
+    fn tear(&mut self, place: Place, bytes: &[u8; 128], kept: u32)
+        requires { inside (W.cards self.old.shelf) (W.blocks self.old.shelf) place.slot place.block ≡ true }
+        ensures below { W.conduct self.new.shelf ≡ after_all (W.conduct self.old.shelf) (torn_writes place.slot place.block kept bytes.now (screened (rows_of self.old.table) (W.holds self.old.shelf) place.slot place.block)) }
         ensures table { self.new.table ≡ self.old.table }
         ensures cards { W.cards self.new.shelf ≡ W.cards self.old.shelf }
         ensures blocks { W.blocks self.new.shelf ≡ W.blocks self.old.shelf }
     {
-        if let Some(old) = self.shown(slot, block) {
-            store(&mut self.shelf, slot, block, &torn_block(kept, bytes, old));
-        }
-    }
-
-    // Hands down what the plan makes of a write.
-    fn carry_out(&mut self, slot: u32, block: u32, bytes: &[u8], plan: Plan)
-        requires slot_within { slot < W.cards self.old.shelf }
-        requires block_within { block < W.blocks self.old.shelf }
-        requires whole { length bytes.now ≡ 128 }
-        ensures below { W.conduct self.new.shelf ≡ after_all (W.conduct self.old.shelf) (planned_writes (W.cards self.old.shelf) (W.blocks self.old.shelf) (W.holds self.old.shelf) (rows_of self.old.table) (write_of slot block bytes.now) plan) }
-        ensures table { self.new.table ≡ self.old.table }
-        ensures cards { W.cards self.new.shelf ≡ W.cards self.old.shelf }
-        ensures blocks { W.blocks self.new.shelf ≡ W.blocks self.old.shelf }
-    {
-        match plan {
-            Plan::Lose => {}
-            Plan::Tear(kept) => self.tear(slot, block, bytes, kept),
-            Plan::Spoil => {}
-            Plan::Stray(target) => {
-                let _ = self.shelf.write(slot, target, bytes);
-            }
+        if let Some(mut torn) = self.shown(place) {
+            let count = kept.min(128) as usize;
+            torn[..count].copy_from_slice(&bytes[..count]);
+            store(&mut self.shelf, place.slot, place.block, &torn);
         }
     }
 
     // Hands down what the plan makes of a write; the write itself where there is no plan.
-    fn hand_down(&mut self, slot: u32, block: u32, bytes: &[u8], found: Option<Found>)
-        requires slot_within { slot < W.cards self.old.shelf }
-        requires block_within { block < W.blocks self.old.shelf }
-        requires whole { length bytes.now ≡ 128 }
-        ensures below { W.conduct self.new.shelf ≡ after_all (W.conduct self.old.shelf) (writes_by (W.cards self.old.shelf) (W.blocks self.old.shelf) (W.holds self.old.shelf) (rows_of self.old.table) (write_of slot block bytes.now) found) }
+    fn hand_down(&mut self, place: Place, bytes: &[u8; 128], found: Option<Found>)
+        requires { inside (W.cards self.old.shelf) (W.blocks self.old.shelf) place.slot place.block ≡ true }
+        ensures below { W.conduct self.new.shelf ≡ after_all (W.conduct self.old.shelf) (writes_by (W.cards self.old.shelf) (W.blocks self.old.shelf) (W.holds self.old.shelf) (rows_of self.old.table) (write_of place.slot place.block bytes.now) found) }
         ensures table { self.new.table ≡ self.old.table }
         ensures cards { W.cards self.new.shelf ≡ W.cards self.old.shelf }
         ensures blocks { W.blocks self.new.shelf ≡ W.blocks self.old.shelf }
     {
-        match found {
-            Some(planned) => self.carry_out(slot, block, bytes, planned.plan),
-            None => {
-                let _ = self.shelf.write(slot, block, bytes);
+        match found.map(|found| found.plan) {
+            None => store(&mut self.shelf, place.slot, place.block, bytes),
+            Some(Plan::Lose | Plan::Spoil) => {}
+            Some(Plan::Tear(kept)) => self.tear(place, bytes, kept),
+            Some(Plan::Stray(target)) => {
+                let _ = self.shelf.write(place.slot, target, bytes);
             }
         }
     }
-
-    // The write of a whole block to a place that the shelf has, by the earliest plan for the place.
-    fn write_by_plan(&mut self, slot: u32, block: u32, bytes: &[u8])
-        requires slot_within { slot < W.cards self.old.shelf }
-        requires block_within { block < W.blocks self.old.shelf }
-        requires whole { length bytes.now ≡ 128 }
-        ensures below { W.conduct self.new.shelf ≡ after_all (W.conduct self.old.shelf) (writes_by (W.cards self.old.shelf) (W.blocks self.old.shelf) (W.holds self.old.shelf) (rows_of self.old.table) (write_of slot block bytes.now) (plan_for slot block (rows_of self.old.table))) }
-        ensures rows { rows_of self.new.table ≡ rows_by (rows_of self.old.table) slot block (plan_for slot block (rows_of self.old.table)) }
-        ensures cards { W.cards self.new.shelf ≡ W.cards self.old.shelf }
-        ensures blocks { W.blocks self.new.shelf ≡ W.blocks self.old.shelf }
-    {
-        let found = self.table.plan_for(slot, block);
-        self.hand_down(slot, block, bytes, found);
-        self.table.pass(found, slot, block);
-    }
-
-    // A write through the layer. A refused write uses no plan.
-    fn write_through(&mut self, slot: u32, block: u32, bytes: &[u8]) -> Result<(), Refusal>
-        ensures answer { result ≡ write_answer tt (W.cards self.old.shelf) (W.blocks self.old.shelf) slot block (length bytes.now) }
-        ensures below { W.conduct self.new.shelf ≡ after_all (W.conduct self.old.shelf) (passed (W.cards self.old.shelf) (W.blocks self.old.shelf) (W.holds self.old.shelf) (rows_of self.old.table) (write_of slot block bytes.now)) }
-        ensures rows { rows_of self.new.table ≡ rows_after (W.cards self.old.shelf) (W.blocks self.old.shelf) (rows_of self.old.table) (write_of slot block bytes.now) }
-        ensures cards { W.cards self.new.shelf ≡ W.cards self.old.shelf }
-        ensures blocks { W.blocks self.new.shelf ≡ W.blocks self.old.shelf }
-    {
-        if bytes.len() != 128 {
-            return Err(Refusal::Length);
-        }
-        if !self.has(slot, block) {
-            return Err(Refusal::Place);
-        }
-        self.write_by_plan(slot, block, bytes);
-        Ok(())
-    }
-}
-
-// A block with the bits of the mask flipped in one byte.
-fn flipped_block(block: [u8; 128], index: u32, mask: u32) -> [u8; 128]
-    requires index_within { index ≤ 127 }
-    requires mask_within { mask ≤ 255 }
-    ensures { result ≡ flipped index mask block }
-{
-    let mut bytes = block;
-    let i = index as usize;
-    bytes[i] = bytes[i] ^ mask as u8;
-    bytes
-}
-
-// The first bytes of the new block, then the old rest.
-fn torn_block(kept: u32, bytes: &[u8], old: [u8; 128]) -> [u8; 128]
-    requires { length bytes.now ≡ 128 }
-    ensures { result ≡ torn kept bytes.now old }
-{
-    let mut block = old;
-    let count = kept.min(128) as usize;
-    for i in 0..count {
-        block[i] = bytes[i];
-    }
-    block
 }
 
 impl<W: WritableShelf> ReadableShelf for FaultLayer<W> {
@@ -255,15 +173,14 @@ impl<W: WritableShelf> ReadableShelf for FaultLayer<W> {
     }
 
     // A marked place is blind; any other is as the shelf below shows it.
+    #[tactic(auto, unfolding(shelf::specs::Model::read_answer, shelf::specs::Model::read_buffer))]
     fn read(&self, slot: u32, block: u32, buf: &mut [u8]) -> Result<Sight, Refusal> {
-        if !self.table.is_marked(slot, block) {
-            return self.shelf.read(slot, block, buf);
-        }
         if buf.len() != 128 {
             return Err(Refusal::Length);
         }
-        if !self.has(slot, block) {
-            return Err(Refusal::Place);
+        let place = self.place(slot, block)?;
+        if !self.table.is_marked(place) {
+            return self.shelf.read(slot, block, buf);
         }
         buf.fill(0);
         Ok(Sight::Blind)
@@ -281,7 +198,9 @@ impl<W: WritableShelf> WritableShelf for FaultLayer<W> {
 
     ghost own = { λ s. fault_own _ _ _ (rows_of s.table) (W.own s.shelf) };
 
-    // Beside what every shelf promises: what is handed down, and the rows afterwards.
+    // Beside what every shelf promises: what is handed down, and the rows afterwards. A refused write uses no
+    // plan.
+    #[tactic(auto, unfolding(shelf::specs::Model::write_answer, shelf::specs::Model::writes_taken, crate::specs::Faults::passed, crate::specs::Faults::rows_after))]
     fn write(&mut self, slot: u32, block: u32, bytes: &[u8]) -> Result<(), Refusal>
         ensures answer { result ≡ write_answer tt (W.cards self.old.shelf) (W.blocks self.old.shelf) slot block (length bytes.now) }
         ensures wrote { fault_conduct (W.cards self.new.shelf) (W.blocks self.new.shelf) (W.conduct self.new.shelf) (rows_of self.new.table) ≡ after_all (fault_conduct (W.cards self.old.shelf) (W.blocks self.old.shelf) (W.conduct self.old.shelf) (rows_of self.old.table)) (writes_taken (W.cards self.old.shelf) (W.blocks self.old.shelf) slot block bytes.now) }
@@ -292,6 +211,11 @@ impl<W: WritableShelf> WritableShelf for FaultLayer<W> {
         ensures below { W.conduct self.new.shelf ≡ after_all (W.conduct self.old.shelf) (passed (W.cards self.old.shelf) (W.blocks self.old.shelf) (W.holds self.old.shelf) (rows_of self.old.table) (write_of slot block bytes.now)) }
         ensures rows { rows_of self.new.table ≡ rows_after (W.cards self.old.shelf) (W.blocks self.old.shelf) (rows_of self.old.table) (write_of slot block bytes.now) }
     {
-        self.write_through(slot, block, bytes)
+        let bytes = <&[u8; 128]>::try_from(bytes).map_err(|_| Refusal::Length)?;
+        let place = self.place(slot, block)?;
+        let found = self.table.plan_for(place);
+        self.hand_down(place, bytes, found);
+        self.table.pass(found, place);
+        Ok(())
     }
 }

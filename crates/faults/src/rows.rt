@@ -6,7 +6,7 @@ ghost use Rattle.faults.specs.Rows.{is_mark, plan_at, turned_row};
 use block::Place;
 
 // What becomes of a write.
-#[derive(Clone, Copy)]
+#[derive(Clone, Copy, PartialEq, Eq, Debug)]
 pub enum Plan {
     // Nothing is written.
     Lose,
@@ -24,45 +24,42 @@ impl Plan {
         ensures { result ≡ plan_fits blocks block self }
     {
         match self {
-            Plan::Lose => true,
-            Plan::Tear(length) => length >= 1 && length <= 127,
-            Plan::Spoil => true,
+            Plan::Lose | Plan::Spoil => true,
+            Plan::Tear(length) => (1..=127).contains(&length),
             Plan::Stray(target) => target < blocks && target != block,
         }
     }
 }
 
 // A row in use: a blind mark on a place, or a plan for a write to a place.
-#[derive(Clone, Copy)]
+#[derive(Clone, Copy, PartialEq, Eq, Debug)]
 pub enum Row {
     Mark(Place),
     Planned(Place, Plan),
 }
 
+// What stands in the table where no row is in use.
+impl Default for Row {
+    fn default() -> Row {
+        Row::Mark(Place { slot: 0, block: 0 })
+    }
+}
+
 impl Row {
     // It is a mark on the place.
-    pub fn is_mark(self, slot: u32, block: u32) -> bool
-        ensures { result ≡ is_mark slot block self }
+    pub fn is_mark(self, place: Place) -> bool
+        ensures { result ≡ is_mark place.slot place.block self }
     {
-        match self {
-            Row::Mark(place) => place.slot == slot && place.block == block,
-            Row::Planned(_, _) => false,
-        }
+        self == Row::Mark(place)
     }
 
     // Its plan, if it is one for the place.
-    pub fn plan_at(self, slot: u32, block: u32) -> Option<Plan>
-        ensures { result ≡ plan_at slot block self }
+    pub fn plan_at(self, place: Place) -> Option<Plan>
+        ensures { result ≡ plan_at place.slot place.block self }
     {
         match self {
-            Row::Mark(_) => None,
-            Row::Planned(place, plan) => {
-                if place.slot == slot && place.block == block {
-                    Some(plan)
-                } else {
-                    None
-                }
-            }
+            Row::Planned(at, plan) if at == place => Some(plan),
+            _ => None,
         }
     }
 
@@ -71,8 +68,7 @@ impl Row {
         ensures { result ≡ turned_row self }
     {
         match self {
-            Row::Mark(place) => Row::Mark(place),
-            Row::Planned(place, _) => Row::Mark(place),
+            Row::Mark(place) | Row::Planned(place, _) => Row::Mark(place),
         }
     }
 }

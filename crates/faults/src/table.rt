@@ -1,10 +1,11 @@
-// The table of the fault layer: at most 32 rows, in order of arrival. Where a row is freed the later ones
-// move down, so the earliest plan for a place is the first row that fits.
-ghost use Rattle.std.specs.Prelude.{◌≡◌, ◌<◌, ◌≤◌, [], length, take};
+// The table of the fault layer: at most 32 rows, in order of arrival, so that the earliest plan for a place is
+// the first row that fits.
+ghost use Rattle.std.specs.Prelude.{◌≡◌, ◌<◌, ◌≤◌, [], length};
 ghost use Rattle.std.specs.List.{remove};
-ghost use Rattle.faults.specs.Rows.{plan_for, mark_on, marked, turned_at, unmarked, added, add_answer, planned_rows, rows_by};
+ghost use Rattle.faults.specs.Rows.{plan_for, marked, turned_at, unmarked, added, add_answer, planned_rows, rows_by};
 
 use crate::rows::{Plan, Row};
+use arrayvec::ArrayVec;
 use block::{Place, Refusal};
 
 // A plan and the index of its row.
@@ -14,139 +15,104 @@ pub struct Found {
     pub plan: Plan,
 }
 
-// The rows in use are the first ones, `used` of them.
 #[derive(Drop)]
 pub struct Table {
-    rows: [Row; 32],
-    used: usize,
-    ghost whole: { length rows ≡ 32 },
-    ghost within: { used ≤ 32 },
+    rows: ArrayVec<Row, 32>,
 }
 
 impl Table {
     // A table with no row in use.
     pub fn empty() -> Table
-        ensures { take result.used result.rows ≡ [] }
+        ensures { result.rows.items ≡ [] }
     {
         Table {
-            rows: [Row::Mark(Place { slot: 0, block: 0 }); 32],
-            used: 0,
+            rows: ArrayVec::new(),
         }
     }
 
     // How many rows are in use.
     pub fn count(&self) -> usize
-        ensures value { result ≡ length (take self.now.used self.now.rows) }
+        ensures value { result ≡ length self.now.rows.items }
         ensures most { result ≤ 32 }
     {
-        self.used
+        self.rows.len()
     }
 
     // The earliest plan for the place.
-    pub fn plan_for(&self, slot: u32, block: u32) -> Option<Found>
-        ensures { result ≡ plan_for slot block (take self.now.used self.now.rows) }
+    pub fn plan_for(&self, place: Place) -> Option<Found>
+        ensures { result ≡ plan_for place.slot place.block self.now.rows.items }
     {
-        for i in 0..self.used {
-            if let Some(plan) = self.rows[i].plan_at(slot, block) {
-                return Some(Found { index: i, plan });
-            }
-        }
-        None
-    }
-
-    // The index of the first mark on the place.
-    pub fn mark_on(&self, slot: u32, block: u32) -> Option<usize>
-        ensures { result ≡ mark_on slot block (take self.now.used self.now.rows) }
-    {
-        for i in 0..self.used {
-            if self.rows[i].is_mark(slot, block) {
-                return Some(i);
-            }
-        }
-        None
+        self.rows.iter().enumerate().find_map(|(index, row)| {
+            row.plan_at(place).map(|plan| Found { index, plan })
+        })
     }
 
     // There is a mark on the place.
-    pub fn is_marked(&self, slot: u32, block: u32) -> bool
-        ensures { result ≡ marked slot block (take self.now.used self.now.rows) }
+    pub fn is_marked(&self, place: Place) -> bool
+        ensures { result ≡ marked place.slot place.block self.now.rows.items }
     {
-        self.mark_on(slot, block).is_some()
+        self.rows.iter().any(|row| row.is_mark(place))
     }
 
     // One more row, unless 32 are in use.
     pub fn add(&mut self, row: Row) -> Result<(), Refusal>
-        ensures answer { result ≡ add_answer tt (take self.old.used self.old.rows) }
-        ensures rows { take self.new.used self.new.rows ≡ added (take self.old.used self.old.rows) row }
+        ensures answer { result ≡ add_answer tt self.old.rows.items }
+        ensures rows { self.new.rows.items ≡ added self.old.rows.items row }
     {
-        if self.used == 32 {
-            return Err(Refusal::TableFull);
-        }
-        self.rows[self.used] = row;
-        self.used += 1;
-        Ok(())
+        self.rows.try_push(row).map_err(|_| Refusal::TableFull)
     }
 
     // Frees a row: the later ones move down by one.
     pub fn free(&mut self, index: usize)
-        requires { index < self.old.used }
-        ensures { take self.new.used self.new.rows ≡ remove (take self.old.used self.old.rows) index }
+        requires { index < length self.old.rows.items }
+        ensures { self.new.rows.items ≡ remove self.old.rows.items index }
     {
-        for k in index..self.used - 1 {
-            let next = self.rows[k + 1];
-            self.rows[k] = next;
-        }
-        self.used -= 1;
+        self.rows.remove(index);
     }
 
     // Turns a plan into a mark on its place, where it is.
     pub fn turn(&mut self, index: usize)
-        requires { index < self.old.used }
-        ensures { take self.new.used self.new.rows ≡ turned_at (take self.old.used self.old.rows) index }
+        requires { index < length self.old.rows.items }
+        ensures { self.new.rows.items ≡ turned_at self.old.rows.items index }
     {
-        let row = self.rows[index];
-        self.rows[index] = row.turned();
+        let row = &mut self.rows.as_mut_slice()[index];
+        *row = row.turned();
     }
 
     // Frees the row of every mark on the place.
-    pub fn unmark(&mut self, slot: u32, block: u32)
-        ensures { take self.new.used self.new.rows ≡ unmarked slot block (take self.old.used self.old.rows) }
+    pub fn unmark(&mut self, place: Place)
+        ensures { self.new.rows.items ≡ unmarked place.slot place.block self.old.rows.items }
     {
-        while let Some(index) = self.mark_on(slot, block) {
-            self.free(index);
-        }
+        self.rows.retain(|row| !row.is_mark(place));
     }
 
     // Uses up a plan for the place: its row is freed, or turned into a mark by a spoil where there is none.
     // A stray also frees the mark on the block that it goes to.
-    pub fn use_up(&mut self, found: Found, slot: u32, block: u32)
-        requires { found.index < self.old.used }
-        ensures { take self.new.used self.new.rows ≡ planned_rows (take self.old.used self.old.rows) slot block found.index found.plan }
+    pub fn use_up(&mut self, found: Found, place: Place)
+        requires { found.index < length self.old.rows.items }
+        ensures { self.new.rows.items ≡ planned_rows self.old.rows.items place.slot place.block found.index found.plan }
     {
         match found.plan {
-            Plan::Lose => self.free(found.index),
-            Plan::Tear(_) => self.free(found.index),
-            Plan::Spoil => {
-                if self.is_marked(slot, block) {
-                    self.free(found.index);
-                } else {
-                    self.turn(found.index);
-                }
-            }
+            Plan::Spoil if !self.is_marked(place) => self.turn(found.index),
+            Plan::Lose | Plan::Tear(_) | Plan::Spoil => self.free(found.index),
             Plan::Stray(target) => {
                 self.free(found.index);
-                self.unmark(slot, target);
+                self.unmark(Place {
+                    block: target,
+                    ..place
+                });
             }
         }
     }
 
     // The rows after a write to the place: the plan is used up, or the mark freed where there is no plan.
-    pub fn pass(&mut self, found: Option<Found>, slot: u32, block: u32)
-        requires { found ≡ plan_for slot block (take self.old.used self.old.rows) }
-        ensures { take self.new.used self.new.rows ≡ rows_by (take self.old.used self.old.rows) slot block found }
+    pub fn pass(&mut self, found: Option<Found>, place: Place)
+        requires { found ≡ plan_for place.slot place.block self.old.rows.items }
+        ensures { self.new.rows.items ≡ rows_by self.old.rows.items place.slot place.block found }
     {
         match found {
-            Some(planned) => self.use_up(planned, slot, block),
-            None => self.unmark(slot, block),
+            Some(planned) => self.use_up(planned, place),
+            None => self.unmark(place),
         }
     }
 }
