@@ -3,21 +3,16 @@ use crate::shapes::{CardTotals, StripeReport, StripeTotals};
 use crate::stripes::report_stripe;
 use checksum::Checksum;
 use shelf::ReadableShelf;
-use stripe::Condition;
 
 fn count_stripe(cards: &mut [CardTotals; 8], report: &StripeReport) {
-    for slot in 0..8usize {
-        let condition: Condition = report.findings[slot].condition;
-        cards[slot] = cards[slot].count(condition);
+    for (totals, finding) in cards.iter_mut().zip(&report.findings) {
+        *totals = totals.count(finding.condition);
     }
 }
 
 fn print_cards<P: Print>(rt: &P, cards: &[CardTotals; 8], count: u32) -> anyhow::Result<()> {
-    for (slot, totals) in cards.iter().enumerate() {
-        if slot < count as usize {
-            let advice = totals.advice();
-            println!(rt; "card {slot}: {totals}: {advice}")?;
-        }
+    for (slot, totals) in cards.iter().take(count as usize).enumerate() {
+        println!(rt; "card {slot}: {totals}: {}", totals.advice())?;
     }
     Ok(())
 }
@@ -50,8 +45,7 @@ pub fn print_report<P: Print, R: ReadableShelf, C: Checksum>(
                 stripes = stripes.count(report.mask);
             }
             Err(refusal) => {
-                let number = refusal.number();
-                println!(rt; "refused by {number}")?;
+                println!(rt; "refused by {refusal}")?;
                 return Ok(());
             }
         }

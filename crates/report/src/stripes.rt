@@ -2,44 +2,30 @@
 ghost use Rattle.std.specs.Prelude.{◌≡◌, ℕ, ◌+◌, ◌<◌};
 ghost use Rattle.block.specs.Judging.{setup};
 ghost use Rattle.stripe.specs.Survey.{setup_on};
+ghost use Rattle.stripe.specs.View.{slots_in, all_in};
 ghost use Rattle.report.specs.Reports.{report_at, stripe_report};
 
 use crate::shapes::StripeReport;
-use block::{Frame, Refusal};
+use block::Refusal;
 use checksum::Checksum;
 use findings::findings_all;
 use shelf::ReadableShelf;
-use stripe::{Condition, Finding, SlotState, frame_of, look, mask_of};
+use stripe::{CardView, Finding, all_slots_in, frame_of};
 
-fn report_of<R: ReadableShelf, C: Checksum>(shelf: &R, frame: Frame, stripe: u32) -> StripeReport
-    requires cards { R.cards shelf.now ≡ frame.width + 1 }
-    requires within { stripe < R.blocks shelf.now }
-    ensures { result ≡ report_at (setup frame C.MARK C.meaning) (R.holds shelf.now) stripe }
+fn report_of<R: ReadableShelf, C: Checksum>(cards: &CardView<R>, stripe: u32) -> StripeReport
+    requires within { stripe < R.blocks cards.now.shelf.now }
+    requires all_in { slots_in cards.now.states.now ≡ all_in }
+    ensures { result ≡ report_at (setup cards.now.frame C.MARK C.meaning) (R.holds cards.now.shelf.now) stripe }
 {
-    let states = [SlotState::In; 8];
-    let blocks = look::<R, C>(shelf, frame, &states, stripe);
-    let blank = Finding {
-        slot: 0,
-        block: 0,
-        condition: Condition::NotLooked,
-        layer: None,
-        lead: None,
-        mended: false,
-    };
-    let mut findings = [blank; 8];
-    findings_all(
-        &blocks.parity,
-        &blocks.data,
-        frame,
-        stripe,
-        None,
-        &mut findings,
-    );
+    let frame = cards.frame;
+    let seen = cards.look::<C>(stripe);
+    let mut findings = [Finding::default(); 8];
+    findings_all(&seen, frame, stripe, None, &mut findings);
     StripeReport {
         stripe,
         cards: frame.width + 1,
         parity: frame.parity_slot(stripe),
-        mask: mask_of(&blocks.parity, &blocks.data, frame, stripe),
+        mask: seen.mask(frame, stripe),
         findings,
     }
 }
@@ -59,6 +45,11 @@ pub fn report_stripe<R: ReadableShelf, C: Checksum>(
     if stripe >= shelf.block_count() {
         return Err(Refusal::Place);
     }
-    let frame = frame_of(shelf, tag);
-    Ok(report_of::<R, C>(shelf, frame, stripe))
+    let states = all_slots_in();
+    let cards = CardView {
+        shelf,
+        frame: frame_of(shelf, tag),
+        states: &states,
+    };
+    Ok(report_of::<R, C>(&cards, stripe))
 }

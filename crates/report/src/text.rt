@@ -14,23 +14,23 @@ fn write_lead<W: fmt::Write>(finding: &Finding, f: &mut fmt::Formatter<W>) -> fm
 // One line: the stripe, its parity slot, the mask, and for each slot the letter of its condition and its lead, or '-'.
 impl fmt::Display for StripeReport {
     fn fmt<W: fmt::Write>(&self, f: &mut fmt::Formatter<W>) -> fmt::Result {
-        let stripe = self.stripe;
-        let parity = self.parity;
-        let mask = self.mask;
-        write!(f, "stripe {stripe} parity {parity} mask {mask} causes ")?;
-        for (slot, finding) in self.findings.iter().enumerate() {
-            if slot < self.cards as usize {
-                f.write_char(letter(finding.condition))?;
-            }
+        write!(
+            f,
+            "stripe {} parity {} mask {} causes ",
+            self.stripe,
+            self.parity,
+            self.mask
+        )?;
+        let cards = self.cards as usize;
+        for finding in self.findings.iter().take(cards) {
+            f.write_char(letter(finding.condition))?;
         }
         f.write_str(" leads ")?;
-        for (slot, finding) in self.findings.iter().enumerate() {
-            if slot < self.cards as usize {
-                if slot > 0 {
-                    f.write_str(",")?;
-                }
-                write_lead(finding, f)?;
+        for (slot, finding) in self.findings.iter().take(cards).enumerate() {
+            if slot > 0 {
+                f.write_str(",")?;
             }
+            write_lead(finding, f)?;
         }
         Ok(())
     }
@@ -38,24 +38,27 @@ impl fmt::Display for StripeReport {
 
 impl fmt::Display for CardTotals {
     fn fmt<W: fmt::Write>(&self, f: &mut fmt::Formatter<W>) -> fmt::Result {
-        let readable = self.readable;
-        let blind = self.blind;
-        let broken = self.broken;
-        let foreign = self.foreign;
-        let behind = self.behind;
         write!(
             f,
-            "readable {readable} blind {blind} broken {broken} foreign {foreign} behind {behind}"
+            "readable {} blind {} broken {} foreign {} behind {}",
+            self.readable,
+            self.blind,
+            self.broken,
+            self.foreign,
+            self.behind
         )
     }
 }
 
 impl fmt::Display for StripeTotals {
     fn fmt<W: fmt::Write>(&self, f: &mut fmt::Formatter<W>) -> fmt::Result {
-        let clean = self.clean;
-        let single = self.single;
-        let lost = self.lost;
-        write!(f, "clean {clean} one bad block {single} lost {lost}")
+        write!(
+            f,
+            "clean {} one bad block {} lost {}",
+            self.clean,
+            self.single,
+            self.lost
+        )
     }
 }
 

@@ -9,7 +9,7 @@ use stripe::{Cause, Condition};
 fn one_more(n: u32) -> u32
     ensures { result ≡ one_more n }
 {
-    if n < 4294967295 { n + 1 } else { n }
+    n.saturating_add(1)
 }
 
 impl CardTotals {
@@ -34,12 +34,10 @@ impl CardTotals {
         match condition {
             Condition::NotLooked => {}
             Condition::Readable => totals.readable = one_more(totals.readable),
-            Condition::Bad(cause) => match cause {
-                Cause::Blind => totals.blind = one_more(totals.blind),
-                Cause::Broken => totals.broken = one_more(totals.broken),
-                Cause::Foreign => totals.foreign = one_more(totals.foreign),
-                Cause::Behind => totals.behind = one_more(totals.behind),
-            },
+            Condition::Bad(Cause::Blind) => totals.blind = one_more(totals.blind),
+            Condition::Bad(Cause::Broken) => totals.broken = one_more(totals.broken),
+            Condition::Bad(Cause::Foreign) => totals.foreign = one_more(totals.foreign),
+            Condition::Bad(Cause::Behind) => totals.behind = one_more(totals.behind),
         }
         totals
     }
@@ -95,11 +93,9 @@ pub fn letter(condition: Condition) -> char
     match condition {
         Condition::NotLooked => ' ',
         Condition::Readable => '.',
-        Condition::Bad(cause) => match cause {
-            Cause::Blind => 'b',
-            Cause::Broken => 'x',
-            Cause::Foreign => 'f',
-            Cause::Behind => 'v',
-        },
+        Condition::Bad(Cause::Blind) => 'b',
+        Condition::Bad(Cause::Broken) => 'x',
+        Condition::Bad(Cause::Foreign) => 'f',
+        Condition::Bad(Cause::Behind) => 'v',
     }
 }

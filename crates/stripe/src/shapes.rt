@@ -54,8 +54,9 @@ pub enum Layer {
 }
 
 // What was found at a place.
-#[derive(Clone, Copy, PartialEq, Eq, Debug)]
+#[derive(Clone, Copy, PartialEq, Eq, Debug, Default)]
 pub enum Condition {
+    #[default]
     NotLooked,
     Readable,
     Bad(Cause),
@@ -63,7 +64,7 @@ pub enum Condition {
 
 // What was found at the place of one slot. The lead of a data block is its version minus the one that parity mirrors;
 // the lead shown for parity is the greatest.
-#[derive(Clone, Copy, PartialEq, Eq, Debug)]
+#[derive(Clone, Copy, PartialEq, Eq, Debug, Default)]
 pub struct Finding {
     pub slot: u32,
     pub block: u32,

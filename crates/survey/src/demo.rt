@@ -2,7 +2,7 @@
 ghost use Rattle.std.specs.Prelude.{◌≤◌};
 
 use anyhow::anyhow;
-use block::{Frame, Role, make_block, role_at};
+use block::{Frame, Record, Role};
 use checksum::Fletcher;
 use image::{Image, ImageView};
 use report::print_report;
@@ -34,16 +34,13 @@ fn versions(role: Role, version: u32) -> [u32; 7] {
 fn block_at(frame: Frame, slot: u32, stripe: u32, version: u32) -> [u8; 128]
     requires { slot ≤ frame.width }
 {
-    let role = role_at(frame, stripe, slot);
-    let (byte, owner) = content(role);
-    make_block::<Fletcher>(
-        frame,
-        stripe,
-        role,
-        &[byte; 80],
+    let spot = frame.spot_at(stripe, slot);
+    let (byte, owner) = content(spot.role);
+    let kept = Record {
+        payload: [byte; 80],
         owner,
-        &versions(role, version),
-    )
+    };
+    spot.make_block::<Fletcher>(&kept, &versions(spot.role, version))
 }
 
 // Writes every place; slot 0 then keeps the old block of stripe 1, and gets the block of stripe 5 at stripe 4.

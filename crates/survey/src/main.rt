@@ -37,10 +37,7 @@ fn parse_sum(text: &str) -> anyhow::Result<Sum> {
 }
 
 fn parse_number(text: &str) -> anyhow::Result<u32> {
-    match text.parse::<u32>() {
-        Ok(n) => Ok(n),
-        Err(_) => Err(anyhow!(USAGE)),
-    }
+    text.parse::<u32>().map_err(|_| anyhow!(USAGE))
 }
 
 fn parse_told(cards: &str, stripes: &str, tag: &str, sum: &str) -> anyhow::Result<Told> {
@@ -71,10 +68,9 @@ fn print_survey(rt: &HostRuntime, told: &Told, bytes: &[u8]) -> anyhow::Result<(
             }
         },
         Err(refusal) => {
-            let number = refusal.number();
             let length = bytes.len();
             println!(rt;
-                "refused by {number}: {length} bytes are no image of {cards} cards with {stripes} blocks each"
+                "refused by {refusal}: {length} bytes are no image of {cards} cards with {stripes} blocks each"
             )?;
             Err(anyhow!(
                 "3 to 8 cards, 1 to 65536 blocks a card, 129 bytes a block, and each flag 0 or 1"
@@ -84,26 +80,16 @@ fn print_survey(rt: &HostRuntime, told: &Told, bytes: &[u8]) -> anyhow::Result<(
 }
 
 fn run(rt: &HostRuntime) -> anyhow::Result<()> {
-    let args = env::args(rt)?;
-    let mut words = Vec::new(rt.alloc());
-    for word in args {
-        words.push(word)?;
-    }
-    if words.len() <= 1 {
-        return demo::run(rt);
-    }
-    if words.len() != 6 {
-        return Err(anyhow!(USAGE));
-    }
-    let told = parse_told(
-        words[2].as_str(),
-        words[3].as_str(),
-        words[4].as_str(),
-        words[5].as_str(),
-    )?;
-    match fs::read(rt, words[1].as_str()) {
-        Ok(bytes) => print_survey(rt, &told, bytes.as_slice()),
-        Err(_) => Err(anyhow!("the image file cannot be read")),
+    let words = env::args(rt)?.collect::<Vec<String>>(rt.alloc())?;
+    match words.as_slice() {
+        [] | [_] => demo::run(rt),
+        [_, path, cards, stripes, tag, sum] => {
+            let told = parse_told(cards.as_str(), stripes.as_str(), tag.as_str(), sum.as_str())?;
+            let bytes = fs::read(rt, path.as_str())
+                .map_err(|_| anyhow!("the image file cannot be read"))?;
+            print_survey(rt, &told, bytes.as_slice())
+        }
+        _ => Err(anyhow!(USAGE)),
     }
 }
 
