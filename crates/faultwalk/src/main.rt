@@ -11,14 +11,8 @@ use shelf::{ReadableShelf, Sight, WritableShelf};
 fn print_place(rt: &HostRuntime, layer: &FaultLayer<Image>, block: u32) -> anyhow::Result<()> {
     let mut bytes = [0u8; 128];
     match layer.read(0, block, &mut bytes) {
-        Ok(sight) => match sight {
-            Sight::Present => {
-                let first = bytes[0];
-                let last = bytes[127];
-                print!(rt; " [{first}..{last}]")?;
-            }
-            Sight::Blind => print!(rt; " [blind]")?,
-        },
+        Ok(Sight::Present) => print!(rt; " [{}..{}]", bytes[0], bytes[127])?,
+        Ok(Sight::Blind) => print!(rt; " [blind]")?,
         Err(_) => print!(rt; " [none]")?,
     }
     Ok(())
@@ -29,15 +23,13 @@ fn print_card(rt: &HostRuntime, layer: &FaultLayer<Image>, told: &str) -> anyhow
     for block in 0..3u32 {
         print_place(rt, layer, block)?;
     }
-    let rows = layer.rows_used();
-    println!(rt; " rows {rows}")?;
+    println!(rt; " rows {}", layer.rows_used())?;
     Ok(())
 }
 
 fn print_answer(rt: &HostRuntime, answer: Result<(), Refusal>) -> anyhow::Result<()> {
     if let Err(refusal) = answer {
-        let number = refusal.number();
-        println!(rt; "refused by {number}")?;
+        println!(rt; "refused by {refusal}")?;
     }
     Ok(())
 }

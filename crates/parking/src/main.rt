@@ -4,13 +4,14 @@
 mod words;
 
 use anyhow::anyhow;
-use array::{Array, RebuildJob, RefusedJob, show};
+use array::{Array, RebuildJob, show};
+use block::HandedBack;
 use checksum::{Checksum, Fletcher};
 use faults::{FaultLayer, Plan};
 use image::Image;
 use runs::{ReadAnswer, Source, Switch, Way};
 use shelf::{ReadableShelf, WritableShelf};
-use stripe::{Condition, Finding};
+use stripe::Finding;
 use words::{payload_of, print_findings, print_payload, refused};
 
 type Cabinet = Array<FaultLayer<Image>, Fletcher>;
@@ -27,15 +28,7 @@ const SESSION: u32 = 4711;
 
 // The findings of a stripe before anything was looked at.
 fn no_findings() -> [Finding; 8] {
-    let blank = Finding {
-        slot: 0,
-        block: 0,
-        condition: Condition::NotLooked,
-        layer: None,
-        lead: None,
-        mended: false,
-    };
-    [blank; 8]
+    [Finding::default(); 8]
 }
 
 // Writes the record of the bay and tells what happened.
@@ -49,8 +42,7 @@ fn record(
     let mut findings = no_findings();
     match cabinet.write(BAY, SESSION, &payload_of(text), way, &mut findings) {
         Ok(answer) => {
-            let looks = answer.looks;
-            println!(rt; "{told}: accepted after looking at {looks} places")?;
+            println!(rt; "{told}: accepted after looking at {} places", answer.looks)?;
             print_findings(rt, &findings)
         }
         Err(refusal) => refused(rt, told, refusal),
@@ -64,12 +56,11 @@ fn print_read(
     found: &[u8],
     rebuilt: &[u8],
 ) -> anyhow::Result<()> {
-    let looks = answer.looks;
     let how = match answer.source {
         Source::Found => "as found",
         Source::Rebuilt => "rebuilt from the other cards",
     };
-    print!(rt; "{told}: {how}, {looks} places: ")?;
+    print!(rt; "{told}: {how}, {} places: ", answer.looks)?;
     match show(answer.source, found, rebuilt) {
         Ok(payload) => print_payload(rt, payload),
         Err(refusal) => refused(rt, told, refusal),
@@ -100,13 +91,9 @@ fn scrub(rt: &HostRuntime, cabinet: &mut Cabinet) -> anyhow::Result<()> {
     let mut findings = no_findings();
     match cabinet.scrub(BLOCKS, &mut findings) {
         Ok(counts) => {
-            let looked = counts.looked;
-            let clean = counts.clean;
-            let mended = counts.mended;
-            let short = counts.short;
-            let lost = counts.lost;
             println!(rt;
-                "the weekly scrub: {looked} stripes, {clean} clean, {mended} mended, {short} short, {lost} lost"
+                "the weekly scrub: {} stripes, {} clean, {} mended, {} short, {} lost",
+                counts.looked, counts.clean, counts.mended, counts.short, counts.lost
             )?;
             Ok(())
         }
@@ -122,15 +109,19 @@ fn rebuild(rt: &HostRuntime, cabinet: &mut Cabinet, job: RebuildJob) -> anyhow::
             println!(rt; "finished after three stripes")?;
             Ok(())
         }
-        Err(RefusedJob { refusal, job: kept }) => {
+        Err(
+            HandedBack {
+                refusal,
+                value: kept,
+            },
+        ) => {
             let second = cabinet.rebuild(&kept, BLOCKS);
-            let number = refusal.number();
             let ended = match cabinet.finish(kept) {
                 Ok(()) => true,
                 Err(
-                    RefusedJob {
+                    HandedBack {
                         refusal: _,
-                        job: left,
+                        value: left,
                     },
                 ) => {
                     let _ = cabinet.give_up(left);
@@ -138,16 +129,13 @@ fn rebuild(rt: &HostRuntime, cabinet: &mut Cabinet, job: RebuildJob) -> anyhow::
                 }
             };
             if let Ok(counts) = first {
-                let moved = counts.moved;
-                let mended = counts.mended;
                 println!(rt;
-                    "rebuilt {moved} stripes of the new card, {mended} of them mended; a finish now is refused by {number}"
+                    "rebuilt {} stripes of the new card, {} of them mended; a finish now is refused by {refusal}",
+                    counts.moved, counts.mended
                 )?;
             }
             if let Ok(counts) = second {
-                let moved = counts.moved;
-                let mended = counts.mended;
-                println!(rt; "rebuilt {moved} more, {mended} of them mended")?;
+                println!(rt; "rebuilt {} more, {} of them mended", counts.moved, counts.mended)?;
             }
             println!(rt; "the new card is in: {ended}")?;
             Ok(())
@@ -208,8 +196,7 @@ fn session(rt: &HostRuntime, cabinet: &mut Cabinet) -> anyhow::Result<()> {
     read(rt, cabinet, "the barrier reads", true)?;
     change_card(rt, cabinet, 2)?;
     read(rt, cabinet, "the barrier reads again", true)?;
-    let tally = cabinet.tally();
-    println!(rt; "reads given rebuilt: {tally}")?;
+    println!(rt; "reads given rebuilt: {}", cabinet.tally())?;
     Ok(())
 }
 

@@ -5,17 +5,15 @@ use stripe::{Cause, Condition, Finding};
 // A text as 80 payload bytes, zeros after it.
 pub fn payload_of(text: &[u8]) -> [u8; 80] {
     let mut payload = [0u8; 80];
-    for (i, byte) in text.iter().enumerate() {
-        if i < 80 {
-            payload[i] = *byte;
-        }
+    for (to, from) in payload.iter_mut().zip(text) {
+        *to = *from;
     }
     payload
 }
 
 pub fn print_payload(rt: &HostRuntime, payload: &[u8]) -> anyhow::Result<()> {
     for byte in payload {
-        if *byte >= 32 && *byte < 127 {
+        if (32..127).contains(byte) {
             let letter = char::from(*byte);
             print!(rt; "{letter}")?;
         }
@@ -37,10 +35,8 @@ fn cause_in_words(cause: Cause) -> &'static str {
 pub fn print_findings(rt: &HostRuntime, findings: &[Finding; 8]) -> anyhow::Result<()> {
     for finding in findings {
         if let Condition::Bad(cause) = finding.condition {
-            let slot = finding.slot;
-            let block = finding.block;
             let words = cause_in_words(cause);
-            print!(rt; "    card {slot}, block {block} {words}")?;
+            print!(rt; "    card {}, block {} {words}", finding.slot, finding.block)?;
             if let Some(lead) = finding.lead {
                 print!(rt; ", lead {lead}")?;
             }
@@ -54,7 +50,6 @@ pub fn print_findings(rt: &HostRuntime, findings: &[Finding; 8]) -> anyhow::Resu
 }
 
 pub fn refused(rt: &HostRuntime, told: &str, refusal: Refusal) -> anyhow::Result<()> {
-    let number = refusal.number();
-    println!(rt; "{told}: refused by {number}")?;
+    println!(rt; "{told}: refused by {refusal}")?;
     Ok(())
 }
