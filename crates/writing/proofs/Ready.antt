@@ -30,19 +30,8 @@ module _ (E F : Setup) (k : Content) (σ : Slots) (s j : ℕ) (p : List ℕ) (o 
       let t' = t ∙ ap₂ (λ b r. quick b r j) d q in
       record {
         prepared =
-          h ∙ ap (λ G. prepared_by true G s V j p o) e
-          ∙ ap (λ z. record { looks = 2; pair = z }) (pair_two E s V W j p o d q)
-          ∙ ap (λ b. prepared_by b E s W j p o) t';
+            h ∙ ap (λ G. prepared_by true G s V j p o) e
+            ∙ ap (λ z. record { looks = 2; pair = z }) (pair_two E s V W j p o d q)
+            ∙ ap (λ b. prepared_by b E s W j p o) t';
         findings = f ∙ ap (λ G. findings_quick G.D s j) e ∙ ap (λ b. findings_by b E.D s W j None) t';
-      }
-
-  -- two places were looked at, and they do not suffice
-  pub ready_more : V (Data j) ≡ view_of E k σ s (Data j) → V Parity ≡ view_of E k σ s Parity → false ≡ quick (V (Data j)) (V Parity) j
-      → ReadyBy Additive E k σ s j p o x fs → ReadyBy Subtractive E k σ s j p o x fs
-  ready_more d q t was =
-      let W = view_of E k σ s in
-      let t' = t ∙ ap₂ (λ b r. quick b r j) d q in
-      record {
-        prepared = was.prepared ∙ ap (λ b. prepared_by b E s W j p o) t';
-        findings = was.findings ∙ ap (λ b. findings_by b E.D s W j None) t';
       }

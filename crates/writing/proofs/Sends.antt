@@ -64,15 +64,3 @@ write_done E k σ s j p o y x K K' r fs ready er ek =
       findings = ready.findings;
       writes = ek ∙ ap (λ (z : Prepared). after_all K (sent_by E.D σ s j z.pair)) ready.prepared ∙ ap (after_all K) (sent_as E σ s V j p o (write_looks E V j y) plan bad);
     }
-
-module _ (E : Setup) (k : Content) (σ : Slots) (L : ℕ) (p : List ℕ) (o : ℕ) (y : Way) (fs : List Finding) where
-  pub call_short : eqb (length p) 80 ≡ false → (K : Conduct) → WriteDone (write_call E k σ L p o y fs) K K (Err Length) fs
-  unfolding write_call
-  call_short e K = subst⁻¹ (λ (x : Writing). WriteDone x K K (Err Length) fs) (cond-false _ _ _ e)
-      (record { answer = refl; findings = refl; writes = refl })
-
-  pub call_long : eqb (length p) 80 ≡ true → (b : List ℕ) (at : Result Position Refusal) (K K' : Conduct) (r : Result WriteAnswer Refusal) (fs' : List Finding)
-      → b ≡ p → at ≡ position_of E.D E.S L → WriteDone (write_from E k σ b o y fs at) K K' r fs' → WriteDone (write_call E k σ L p o y fs) K K' r fs'
-  unfolding write_call
-  call_long e b at K K' r fs' eb ea d = subst (λ (x : Writing). WriteDone x K K' r fs')
-      (ap₂ (λ c a. write_from E k σ c o y fs a) eb ea ∙ sym (cond-true _ _ _ e)) d

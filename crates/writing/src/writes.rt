@@ -22,7 +22,6 @@ fn send<W: WritableShelf>(cards: &mut CardSet<W>, spot: Spot, bytes: [u8; 128])
     requires same { spot.frame ≡ cards.old.frame }
     requires within { spot.stripe < W.blocks cards.old.shelf }
     ensures wrote { W.conduct cards.new.shelf ≡ after_all (W.conduct cards.old.shelf) (sent (slots_in cards.old.states) (write_of (slot_of spot.frame.width spot.stripe spot.role) spot.stripe bytes)) }
-    ensures blocks { W.blocks cards.new.shelf ≡ W.blocks cards.old.shelf }
     ensures frame { cards.new.frame ≡ cards.old.frame }
     ensures states { cards.new.states ≡ cards.old.states }
 {
