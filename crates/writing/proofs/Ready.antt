@@ -9,7 +9,6 @@ use Rattle.stripe.specs.View.{Slots, View, view_of}
 use Rattle.runs.specs.declared.shapes.Way.TheVariants.{Subtractive, Additive}
 use Rattle.runs.specs.Gather.{quick}
 use Rattle.runs.specs.Reads.{findings_by}
-use Rattle.writing.specs.declared.shapes.Pair.{Pair}
 use Rattle.writing.specs.declared.shapes.Prepared.{Prepared}
 use Rattle.writing.specs.Prepare.{prepared_by, ReadyBy}
 use Rattle.writing.proofs.Two.{pair_two}

@@ -1,12 +1,8 @@
 -- What is answered and handed down, from the prepared blocks. Assumes nothing.
-use Rattle.std.proofs.Common.{◌≡◌, ℕ, suc, ◌+◌, Bool, true, false, cond, eqb, ltb, List, length, Ok, Err, Result, sym, refl, ap, ◌∙◌, subst, ap₂, add-one}
-use mathlib.Core.Path.{subst⁻¹}
-use Rattle.std.proofs.lemmas.Bool.{cond-true, cond-false}
+use Rattle.std.proofs.Common.{◌≡◌, ℕ, suc, ◌+◌, Bool, true, false, cond, ltb, List, Ok, Err, Result, refl, ap, ◌∙◌, add-one}
 use Rattle.block.specs.declared.refusal.Refusal.{Refusal}
-use Rattle.block.specs.declared.refusal.Refusal.TheVariants.{Length, VersionLimit}
-use Rattle.block.specs.declared.shapes.Position.{Position}
+use Rattle.block.specs.declared.refusal.Refusal.TheVariants.{VersionLimit}
 use Rattle.block.specs.Judging.{Setup}
-use Rattle.block.specs.Places.{position_of}
 use Rattle.shelf.specs.Model.{Conduct, Content, after_all}
 use Rattle.stripe.specs.declared.shapes.Finding.{Finding}
 use Rattle.stripe.specs.declared.shapes.Plan.{Plan}
@@ -16,7 +12,7 @@ use Rattle.stripe.specs.View.{Slots, View, view_of}
 use Rattle.runs.specs.declared.shapes.Way.{Way}
 use Rattle.runs.specs.declared.shapes.WriteAnswer.{WriteAnswer}
 use Rattle.runs.specs.Done.{WriteDone}
-use Rattle.runs.specs.Writes.{write_plan, parity_masked, write_looks, plan_answer, on_accept, Writing, write_at, write_from, write_call}
+use Rattle.runs.specs.Writes.{write_plan, parity_masked, write_looks, plan_answer, on_accept, write_at}
 use Rattle.writing.specs.declared.shapes.Pair.{Pair}
 use Rattle.writing.specs.declared.shapes.Prepared.{Prepared}
 use Rattle.writing.specs.Prepare.{pair_of, ReadyBy, answered_by, pair_sent, sent_by}
