@@ -1,3 +1,3 @@
+mod Two
 mod Ready
 mod Sends
-mod Two

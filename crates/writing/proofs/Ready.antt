@@ -1,26 +1,36 @@
--- What a subtractive write makes ready, by the two blocks that it looks at first. Assumes nothing.
-use Rattle.std.proofs.Common.{◌≡◌, ℕ, true, false, List, None, ap, ◌∙◌}
+-- What a write makes ready, by what it looked at. Assumes nothing.
+use Rattle.std.proofs.Common.{◌≡◌, ℕ, true, false, List, None, ap, ◌∙◌, ap₂}
+use Rattle.block.specs.declared.shapes.Role.TheVariants.{Parity, Data}
 use Rattle.block.specs.Judging.{Setup}
 use Rattle.shelf.specs.Model.{Content}
 use Rattle.stripe.specs.declared.shapes.Finding.{Finding}
-use Rattle.stripe.specs.Findings.{findings_quick}
-use Rattle.stripe.specs.View.{Slots, view_of}
+use Rattle.stripe.specs.Findings.{findings_all, findings_quick}
+use Rattle.stripe.specs.View.{Slots, View, view_of}
 use Rattle.runs.specs.declared.shapes.Way.TheVariants.{Subtractive, Additive}
+use Rattle.runs.specs.Gather.{quick}
 use Rattle.runs.specs.Reads.{findings_by}
-use Rattle.runs.specs.Writes.{swift}
 use Rattle.writing.specs.declared.shapes.Prepared.{Prepared}
 use Rattle.writing.specs.Prepare.{prepared_by, ReadyBy}
+use Rattle.writing.proofs.Two.{pair_two}
 
-module _ (E : Setup) (k : Content) (σ : Slots) (s j : ℕ) (p : List ℕ) (o : ℕ) (x : Prepared) (fs : List Finding) where
-  pub ready_two : true ≡ swift Subtractive (view_of E k σ s) j → x ≡ prepared_by true E s (view_of E k σ s) j p o
-      → fs ≡ findings_quick E.D s j → ReadyBy Subtractive E k σ s j p o x fs
-  ready_two e h f = record {
-    prepared = h ∙ ap (λ q. prepared_by q E s (view_of E k σ s) j p o) e;
-    findings = f ∙ ap (λ q. findings_by q E.D s (view_of E k σ s) j None) e;
+module _ (E F : Setup) (k : Content) (σ : Slots) (s j : ℕ) (p : List ℕ) (o : ℕ) (V : View) (x : Prepared) (fs : List Finding) where
+  -- all places were looked at
+  pub ready_all : F ≡ E → V ≡ view_of E k σ s → x ≡ prepared_by false F s V j p o → fs ≡ findings_all F.D s V None → ReadyBy Additive E k σ s j p o x fs
+  ready_all e v h f = record {
+    prepared = h ∙ ap₂ (λ G W. prepared_by false G s W j p o) e v;
+    findings = f ∙ ap₂ (λ G W. findings_all G.D s W None) e v;
   }
 
-  pub ready_all : false ≡ swift Subtractive (view_of E k σ s) j → ReadyBy Additive E k σ s j p o x fs → ReadyBy Subtractive E k σ s j p o x fs
-  ready_all e was = record {
-    prepared = was.prepared ∙ ap (λ q. prepared_by q E s (view_of E k σ s) j p o) e;
-    findings = was.findings ∙ ap (λ q. findings_by q E.D s (view_of E k σ s) j None) e;
-  }
+  -- two places were looked at, and they suffice
+  pub ready_two : F ≡ E → V (Data j) ≡ view_of E k σ s (Data j) → V Parity ≡ view_of E k σ s Parity → true ≡ quick (V (Data j)) (V Parity) j
+      → x ≡ prepared_by true F s V j p o → fs ≡ findings_quick F.D s j → ReadyBy Subtractive E k σ s j p o x fs
+  ready_two e d q t h f =
+      let W = view_of E k σ s in
+      let t' = t ∙ ap₂ (λ b r. quick b r j) d q in
+      record {
+        prepared =
+            h ∙ ap (λ G. prepared_by true G s V j p o) e
+            ∙ ap (λ z. record { looks = 2; pair = z }) (pair_two E s V W j p o d q)
+            ∙ ap (λ b. prepared_by b E s W j p o) t';
+        findings = f ∙ ap (λ G. findings_quick G.D s j) e ∙ ap (λ b. findings_by b E.D s W j None) t';
+      }

@@ -1,12 +1,8 @@
 -- What is answered and handed down, from the prepared blocks. Assumes nothing.
-use Rattle.std.proofs.Common.{◌≡◌, ℕ, suc, ◌+◌, Bool, true, false, cond, eqb, ltb, List, length, Ok, Err, Result, sym, refl, ap, ◌∙◌, subst, ap₂, add-one}
-use mathlib.Core.Path.{subst⁻¹}
-use Rattle.std.proofs.lemmas.Bool.{cond-true, cond-false}
+use Rattle.std.proofs.Common.{◌≡◌, ℕ, suc, ◌+◌, Bool, true, false, cond, ltb, List, Ok, Err, Result, refl, ap, ◌∙◌, add-one}
 use Rattle.block.specs.declared.refusal.Refusal.{Refusal}
-use Rattle.block.specs.declared.refusal.Refusal.TheVariants.{Length, VersionLimit}
-use Rattle.block.specs.declared.shapes.Position.{Position}
+use Rattle.block.specs.declared.refusal.Refusal.TheVariants.{VersionLimit}
 use Rattle.block.specs.Judging.{Setup}
-use Rattle.block.specs.Places.{position_of}
 use Rattle.shelf.specs.Model.{Conduct, Content, after_all}
 use Rattle.stripe.specs.declared.shapes.Finding.{Finding}
 use Rattle.stripe.specs.declared.shapes.Plan.{Plan}
@@ -16,7 +12,7 @@ use Rattle.stripe.specs.View.{Slots, View, view_of}
 use Rattle.runs.specs.declared.shapes.Way.{Way}
 use Rattle.runs.specs.declared.shapes.WriteAnswer.{WriteAnswer}
 use Rattle.runs.specs.Done.{WriteDone}
-use Rattle.runs.specs.Writes.{write_plan, parity_masked, write_looks, plan_answer, on_accept, Writing, write_at, write_from, write_call}
+use Rattle.runs.specs.Writes.{write_plan, parity_masked, write_looks, plan_answer, on_accept, write_at}
 use Rattle.writing.specs.declared.shapes.Pair.{Pair}
 use Rattle.writing.specs.declared.shapes.Prepared.{Prepared}
 use Rattle.writing.specs.Prepare.{pair_of, ReadyBy, answered_by, pair_sent, sent_by}
@@ -64,15 +60,3 @@ write_done E k σ s j p o y x K K' r fs ready er ek =
       findings = ready.findings;
       writes = ek ∙ ap (λ (z : Prepared). after_all K (sent_by E.D σ s j z.pair)) ready.prepared ∙ ap (after_all K) (sent_as E σ s V j p o (write_looks E V j y) plan bad);
     }
-
-module _ (E : Setup) (k : Content) (σ : Slots) (L : ℕ) (p : List ℕ) (o : ℕ) (y : Way) (fs : List Finding) where
-  pub call_short : eqb (length p) 80 ≡ false → (K : Conduct) → WriteDone (write_call E k σ L p o y fs) K K (Err Length) fs
-  unfolding write_call
-  call_short e K = subst⁻¹ (λ (x : Writing). WriteDone x K K (Err Length) fs) (cond-false _ _ _ e)
-      (record { answer = refl; findings = refl; writes = refl })
-
-  pub call_long : eqb (length p) 80 ≡ true → (b : List ℕ) (at : Result Position Refusal) (K K' : Conduct) (r : Result WriteAnswer Refusal) (fs' : List Finding)
-      → b ≡ p → at ≡ position_of E.D E.S L → WriteDone (write_from E k σ b o y fs at) K K' r fs' → WriteDone (write_call E k σ L p o y fs) K K' r fs'
-  unfolding write_call
-  call_long e b at K K' r fs' eb ea d = subst (λ (x : Writing). WriteDone x K K' r fs')
-      (ap₂ (λ c a. write_from E k σ c o y fs a) eb ea ∙ sym (cond-true _ _ _ e)) d

@@ -1,240 +1,141 @@
 // What a write makes of a stripe.
-ghost use Rattle.std.specs.Prelude.{◌≡◌, ℕ, ◌+◌, ◌<◌, ◌≤◌, Bool, true, false};
+ghost use Rattle.std.specs.Prelude.{◌≡◌, ◌<◌, true, false};
 ghost use Rattle.block.specs.Judging.{setup};
-ghost use Rattle.stripe.specs.View.{View, as_view, slots_in, view_of};
-ghost use Rattle.runs.specs.Gather.{quick};
+ghost use Rattle.stripe.specs.View.{seen_in, slots_in, view_of};
 ghost use Rattle.writing.specs.Prepare.{pair_at, pair_of, prepared_by, ReadyBy};
 
 use crate::shapes::{Pair, Prepared};
-use block::{Defect, Frame, Refusal, Role, Verdict, version};
+use block::{DataSpot, Record, Refusal, Role};
 use checksum::Checksum;
 use findings::{findings_all, findings_quick};
 use mending::{base_version, new_data, new_parity, plan_of};
+use patches::quick;
 use runs::Way;
 use shelf::ReadableShelf;
-use stripe::{Finding, Plan, SlotState, Stripe, bad_role, judge_place, look};
-
-// Whether data block j and parity are both readable, with lead 0.
-fn is_quick(block: &Verdict, parity: &Verdict, j: u32) -> bool
-    requires { j < 7 }
-    ensures { result ≡ quick block.now parity.now j }
-{
-    match block {
-        Err(_) => false,
-        Ok(b) => match parity {
-            Err(_) => false,
-            Ok(p) => version(b, 0) == version(p, j),
-        },
-    }
-}
+use stripe::{CardView, Finding, Plan, Stripe};
 
 // Both blocks of a version one above the base, unless that is the greatest.
 fn pair_at<C: Checksum>(
     base: u32,
-    parity: &Verdict,
-    data: &[Verdict; 7],
-    frame: Frame,
-    s: u32,
-    j: u32,
+    stripe: &Stripe,
+    at: DataSpot,
     plan: Plan,
     bad: bool,
-    payload: &[u8; 80],
-    owner: u32,
+    kept: &Record,
 ) -> Result<Pair, Refusal>
-    requires { j < frame.width }
-    ensures { result ≡ pair_at base (setup frame C.MARK C.meaning) s (as_view parity.now «data».now) j plan bad payload.now owner }
+    ensures { result ≡ pair_at base (setup at.frame C.MARK C.meaning) at.stripe (seen_in stripe.now) at.index plan bad kept.now.payload kept.now.owner }
 {
-    if base < 4294967295 {
-        let next = base + 1;
-        let block = new_data::<C>(frame, s, j, payload, owner, next);
-        let fresh = new_parity::<C>(parity, data, frame, s, j, plan, bad, payload, owner, next);
-        Ok(Pair {
-            block,
-            parity: fresh,
-        })
-    } else {
-        Err(Refusal::VersionLimit)
-    }
+    let version = base.checked_add(1).ok_or(Refusal::VersionLimit)?;
+    Ok(Pair {
+        block: new_data::<C>(at, kept, version),
+        parity: new_parity::<C>(stripe, at, plan, bad, kept, version),
+    })
 }
 
 // The blocks of a write by a plan; bad tells whether parity is in the mask.
+#[tactic(auto, unfolding(crate::specs::Prepare::pair_of))]
 fn pair_of<C: Checksum>(
     plan: Plan,
     bad: bool,
-    parity: &Verdict,
-    data: &[Verdict; 7],
-    frame: Frame,
-    s: u32,
-    j: u32,
-    payload: &[u8; 80],
-    owner: u32,
+    stripe: &Stripe,
+    at: DataSpot,
+    kept: &Record,
 ) -> Result<Pair, Refusal>
-    requires { j < frame.width }
-    ensures { result ≡ pair_of plan bad (setup frame C.MARK C.meaning) s (as_view parity.now «data».now) j payload.now owner }
+    ensures { result ≡ pair_of plan bad (setup at.frame C.MARK C.meaning) at.stripe (seen_in stripe.now) at.index kept.now.payload kept.now.owner }
 {
-    let base = base_version(parity, data, frame, j);
     match plan {
         Plan::Lost => Err(Refusal::Lost),
-        Plan::BySum => pair_at::<C>(
-            base,
-            parity,
-            data,
-            frame,
-            s,
-            j,
-            Plan::BySum,
-            bad,
-            payload,
-            owner,
-        ),
-        Plan::ByAll => pair_at::<C>(
-            base,
-            parity,
-            data,
-            frame,
-            s,
-            j,
-            Plan::ByAll,
-            bad,
-            payload,
-            owner,
-        ),
+        Plan::BySum | Plan::ByAll => {
+            pair_at::<C>(base_version(stripe, at), stripe, at, plan, bad, kept)
+        }
     }
 }
 
-// The blocks of a write once only data block j and parity were looked at.
-fn prepare_quick<C: Checksum>(
-    block: Verdict,
-    parity: &Verdict,
-    frame: Frame,
-    s: u32,
-    j: u32,
-    payload: &[u8; 80],
-    owner: u32,
-) -> Prepared
-    requires { j < frame.width }
-    ensures { (V : View) → block ≡ V (Role.Data j) → parity.now ≡ V Role.Parity → result ≡ prepared_by true (setup frame C.MARK C.meaning) s V j payload.now owner }
+// The blocks of a write once only its data block and parity were looked at.
+fn prepare_quick<C: Checksum>(stripe: &Stripe, at: DataSpot, kept: &Record) -> Prepared
+    ensures { result ≡ prepared_by true (setup at.frame C.MARK C.meaning) at.stripe (seen_in stripe.now) at.index kept.now.payload kept.now.owner }
 {
-    let mut data = [Err(Defect::Blind); 7];
-    data[j as usize] = block;
-    let pair = pair_of::<C>(
-        Plan::BySum,
-        false,
-        parity,
-        &data,
-        frame,
-        s,
-        j,
-        payload,
-        owner,
-    );
-    Prepared { looks: 2, pair }
+    Prepared {
+        looks: 2,
+        pair: pair_of::<C>(Plan::BySum, false, stripe, at, kept),
+    }
 }
 
 // The blocks of a write once all places of the stripe were looked at.
-fn prepare_full<C: Checksum>(
-    parity: &Verdict,
-    data: &[Verdict; 7],
-    frame: Frame,
-    s: u32,
-    j: u32,
-    payload: &[u8; 80],
-    owner: u32,
-) -> Prepared
-    requires { j < frame.width }
-    ensures { result ≡ prepared_by false (setup frame C.MARK C.meaning) s (as_view parity.now «data».now) j payload.now owner }
+fn prepare_full<C: Checksum>(stripe: &Stripe, at: DataSpot, kept: &Record) -> Prepared
+    ensures { result ≡ prepared_by false (setup at.frame C.MARK C.meaning) at.stripe (seen_in stripe.now) at.index kept.now.payload kept.now.owner }
 {
-    let plan = plan_of(parity, data, frame, s, j);
-    let bad = bad_role(parity, data, frame, Role::Parity);
-    let pair = pair_of::<C>(plan, bad, parity, data, frame, s, j, payload, owner);
+    let plan = plan_of(stripe, at);
+    let bad = stripe.is_bad(at.parity());
     Prepared {
-        looks: frame.width + 1,
-        pair,
+        looks: at.frame.width + 1,
+        pair: pair_of::<C>(plan, bad, stripe, at, kept),
     }
 }
 
-// All blocks of stripe s, whose view is the stripe's.
-fn look_all<R: ReadableShelf, C: Checksum>(
-    shelf: &R,
-    frame: Frame,
-    states: &[SlotState; 8],
-    s: u32,
-) -> Stripe
-    requires cards { R.cards shelf.now ≡ frame.width + 1 }
-    requires within { s < R.blocks shelf.now }
-    ensures { as_view result.parity result.«data» ≡ view_of (setup frame C.MARK C.meaning) (R.holds shelf.now) (slots_in states.now) s }
-{
-    look::<R, C>(shelf, frame, states, s)
-}
-
-// What a write makes ready once it looks at all places of stripe s; fills the findings.
+// What a write makes ready once it looks at all places of its stripe; fills the findings.
 fn prepare_all<R: ReadableShelf, C: Checksum>(
-    shelf: &R,
-    frame: Frame,
-    states: &[SlotState; 8],
-    s: u32,
-    j: u32,
-    payload: &[u8; 80],
-    owner: u32,
+    cards: &CardView<R>,
+    at: DataSpot,
+    kept: &Record,
     findings: &mut [Finding; 8],
 ) -> Prepared
-    requires cards { R.cards shelf.now ≡ frame.width + 1 }
-    requires within { s < R.blocks shelf.now }
-    requires placed { j < frame.width }
-    ensures { ReadyBy Way.Additive (setup frame C.MARK C.meaning) (R.holds shelf.now) (slots_in states.now) s j payload.now owner result findings.new }
+    requires same { at.frame ≡ cards.now.frame }
+    requires within { at.stripe < R.blocks cards.now.shelf.now }
+    ensures { ReadyBy Way.Additive (setup cards.now.frame C.MARK C.meaning) (R.holds cards.now.shelf.now) (slots_in cards.now.states.now) at.stripe at.index kept.now.payload kept.now.owner result findings.new }
 {
-    let stripe = look_all::<R, C>(shelf, frame, states, s);
-    findings_all(&stripe.parity, &stripe.data, frame, s, None, findings);
-    prepare_full::<C>(&stripe.parity, &stripe.data, frame, s, j, payload, owner)
+    let stripe = cards.look::<C>(at.stripe);
+    findings_all(&stripe, at.frame, at.stripe, None, findings);
+    prepare_full::<C>(&stripe, at, kept)
 }
 
-// What a write makes ready that looks at data block j and parity, and at all places only if these two do not suffice.
+// A stripe of which only a data block and parity are looked at.
+fn look_two<R: ReadableShelf, C: Checksum>(cards: &CardView<R>, at: DataSpot) -> Stripe
+    requires same { at.frame ≡ cards.now.frame }
+    requires within { at.stripe < R.blocks cards.now.shelf.now }
+    ensures own { seen_in result (Role.Data at.index) ≡ view_of (setup cards.now.frame C.MARK C.meaning) (R.holds cards.now.shelf.now) (slots_in cards.now.states.now) at.stripe (Role.Data at.index) }
+    ensures parity { seen_in result Role.Parity ≡ view_of (setup cards.now.frame C.MARK C.meaning) (R.holds cards.now.shelf.now) (slots_in cards.now.states.now) at.stripe Role.Parity }
+{
+    let mut stripe = Stripe::unseen();
+    stripe.data[at.index as usize] = cards.judge::<C>(at.data());
+    stripe.parity = cards.judge::<C>(at.parity());
+    stripe
+}
+
+// What a write makes ready that looks at its data block and parity, and at all places only if these two do not suffice.
 fn prepare_two<R: ReadableShelf, C: Checksum>(
-    shelf: &R,
-    frame: Frame,
-    states: &[SlotState; 8],
-    s: u32,
-    j: u32,
-    payload: &[u8; 80],
-    owner: u32,
+    cards: &CardView<R>,
+    at: DataSpot,
+    kept: &Record,
     findings: &mut [Finding; 8],
 ) -> Prepared
-    requires cards { R.cards shelf.now ≡ frame.width + 1 }
-    requires within { s < R.blocks shelf.now }
-    requires placed { j < frame.width }
-    ensures { ReadyBy Way.Subtractive (setup frame C.MARK C.meaning) (R.holds shelf.now) (slots_in states.now) s j payload.now owner result findings.new }
+    requires same { at.frame ≡ cards.now.frame }
+    requires within { at.stripe < R.blocks cards.now.shelf.now }
+    ensures { ReadyBy Way.Subtractive (setup cards.now.frame C.MARK C.meaning) (R.holds cards.now.shelf.now) (slots_in cards.now.states.now) at.stripe at.index kept.now.payload kept.now.owner result findings.new }
 {
-    let block = judge_place::<R, C>(shelf, frame, states, s, Role::Data(j));
-    let parity = judge_place::<R, C>(shelf, frame, states, s, Role::Parity);
-    if is_quick(&block, &parity, j) {
-        findings_quick(frame, s, j, findings);
-        prepare_quick::<C>(block, &parity, frame, s, j, payload, owner)
+    let stripe = look_two::<R, C>(cards, at);
+    if quick(stripe.data_at(at.index), &stripe.parity, at.index) {
+        findings_quick(at, findings);
+        prepare_quick::<C>(&stripe, at, kept)
     } else {
-        prepare_all::<R, C>(shelf, frame, states, s, j, payload, owner, findings)
+        prepare_all::<R, C>(cards, at, kept, findings)
     }
 }
 
-// What a write of data block j of stripe s makes ready, either way; fills the findings.
+// What a write of a data block makes ready, either way; fills the findings.
 pub fn prepare<R: ReadableShelf, C: Checksum>(
-    shelf: &R,
-    frame: Frame,
-    states: &[SlotState; 8],
-    s: u32,
-    j: u32,
-    payload: &[u8; 80],
-    owner: u32,
+    cards: &CardView<R>,
+    at: DataSpot,
+    kept: &Record,
     way: Way,
     findings: &mut [Finding; 8],
 ) -> Prepared
-    requires cards { R.cards shelf.now ≡ frame.width + 1 }
-    requires within { s < R.blocks shelf.now }
-    requires placed { j < frame.width }
-    ensures { ReadyBy way (setup frame C.MARK C.meaning) (R.holds shelf.now) (slots_in states.now) s j payload.now owner result findings.new }
+    requires same { at.frame ≡ cards.now.frame }
+    requires within { at.stripe < R.blocks cards.now.shelf.now }
+    ensures { ReadyBy way (setup cards.now.frame C.MARK C.meaning) (R.holds cards.now.shelf.now) (slots_in cards.now.states.now) at.stripe at.index kept.now.payload kept.now.owner result findings.new }
 {
     match way {
-        Way::Subtractive => prepare_two::<R, C>(
-            shelf, frame, states, s, j, payload, owner, findings,
-        ),
-        Way::Additive => prepare_all::<R, C>(shelf, frame, states, s, j, payload, owner, findings),
+        Way::Subtractive => prepare_two::<R, C>(cards, at, kept, findings),
+        Way::Additive => prepare_all::<R, C>(cards, at, kept, findings),
     }
 }

@@ -1,184 +1,105 @@
 // A write: its refusals, and what it hands down.
-ghost use Rattle.std.specs.Prelude.{◌≡◌, ℕ, ◌+◌, ◌<◌, ◌≤◌, ◌++◌};
+ghost use Rattle.std.specs.Prelude.{◌≡◌, ℕ, ◌<◌};
 ghost use Rattle.block.specs.Judging.{setup};
-ghost use Rattle.block.specs.Places.{Within};
+ghost use Rattle.block.specs.Places.{slot_of};
 ghost use Rattle.shelf.specs.Model.{after_all, write_of};
 ghost use Rattle.stripe.specs.View.{slots_in};
 ghost use Rattle.runs.specs.Done.{WriteDone};
-ghost use Rattle.runs.specs.Writes.{sent, write_at, write_from, write_call};
+ghost use Rattle.runs.specs.Writes.{sent, write_at, write_call};
 ghost use Rattle.writing.specs.Prepare.{pair_sent, answered_by, sent_by};
 
 use crate::preparing::prepare;
 use crate::shapes::{Pair, Prepared};
-use block::{Frame, Position, Refusal, Role, slot_of};
+use block::{DataSpot, Record, Refusal, Spot};
 use checksum::Checksum;
 use patches::apply_patch;
 use runs::{Patch, Way, WriteAnswer};
-use shelf::{ReadableShelf, WritableShelf};
-use stripe::{Finding, SlotState};
+use shelf::WritableShelf;
+use stripe::{CardSet, Finding};
 
-// Hands a block down to its slot at stripe s, unless the slot's state hides the place.
-fn send<W: WritableShelf>(shelf: &mut W, states: &[SlotState; 8], s: u32, patch: Patch)
-    requires few { W.cards shelf.old ≤ 8 }
-    requires within { s < W.blocks shelf.old }
-    requires below { patch.slot < W.cards shelf.old }
-    ensures wrote { W.conduct shelf.new ≡ after_all (W.conduct shelf.old) (sent (slots_in states.now) (write_of patch.slot s patch.bytes)) }
-    ensures cards { W.cards shelf.new ≡ W.cards shelf.old }
-    ensures blocks { W.blocks shelf.new ≡ W.blocks shelf.old }
+// Hands a block down to its place, unless its slot's state hides that.
+fn send<W: WritableShelf>(cards: &mut CardSet<W>, spot: Spot, bytes: [u8; 128])
+    requires same { spot.frame ≡ cards.old.frame }
+    requires within { spot.stripe < W.blocks cards.old.shelf }
+    ensures wrote { W.conduct cards.new.shelf ≡ after_all (W.conduct cards.old.shelf) (sent (slots_in cards.old.states) (write_of (slot_of spot.frame.width spot.stripe spot.role) spot.stripe bytes)) }
+    ensures frame { cards.new.frame ≡ cards.old.frame }
+    ensures states { cards.new.states ≡ cards.old.states }
 {
-    apply_patch(shelf, states, s, Some(patch));
-}
-
-// Hands both down, the first one first.
-fn send_both<W: WritableShelf>(
-    shelf: &mut W,
-    states: &[SlotState; 8],
-    s: u32,
-    first: Patch,
-    second: Patch,
-)
-    requires few { W.cards shelf.old ≤ 8 }
-    requires within { s < W.blocks shelf.old }
-    requires first { first.slot < W.cards shelf.old }
-    requires second { second.slot < W.cards shelf.old }
-    ensures wrote { W.conduct shelf.new ≡ after_all (W.conduct shelf.old) (sent (slots_in states.now) (write_of first.slot s first.bytes) ++ sent (slots_in states.now) (write_of second.slot s second.bytes)) }
-    ensures cards { W.cards shelf.new ≡ W.cards shelf.old }
-    ensures blocks { W.blocks shelf.new ≡ W.blocks shelf.old }
-{
-    send(shelf, states, s, first);
-    send(shelf, states, s, second);
+    let patch = Patch {
+        slot: spot.slot(),
+        bytes,
+    };
+    apply_patch(&mut cards.shelf, &cards.states, spot.stripe, Some(patch));
 }
 
 // Hands the two blocks of a write down, the data block first.
-fn send_pair<W: WritableShelf>(
-    shelf: &mut W,
-    frame: Frame,
-    states: &[SlotState; 8],
-    s: u32,
-    j: u32,
-    pair: Pair,
-)
-    requires cards { W.cards shelf.old ≡ frame.width + 1 }
-    requires within { s < W.blocks shelf.old }
-    requires placed { j < frame.width }
-    ensures wrote { W.conduct shelf.new ≡ after_all (W.conduct shelf.old) (pair_sent frame.width (slots_in states.now) s j pair) }
-    ensures cards { W.cards shelf.new ≡ W.cards shelf.old }
-    ensures blocks { W.blocks shelf.new ≡ W.blocks shelf.old }
+fn send_pair<W: WritableShelf>(cards: &mut CardSet<W>, at: DataSpot, pair: Pair)
+    requires same { at.frame ≡ cards.old.frame }
+    requires within { at.stripe < W.blocks cards.old.shelf }
+    ensures wrote { W.conduct cards.new.shelf ≡ after_all (W.conduct cards.old.shelf) (pair_sent at.frame.width (slots_in cards.old.states) at.stripe at.index pair) }
+    ensures frame { cards.new.frame ≡ cards.old.frame }
+    ensures states { cards.new.states ≡ cards.old.states }
 {
-    let Pair { block, parity } = pair;
-    let data_patch = Patch {
-        slot: slot_of(frame, s, Role::Data(j)),
-        bytes: block,
-    };
-    let parity_patch = Patch {
-        slot: slot_of(frame, s, Role::Parity),
-        bytes: parity,
-    };
-    send_both(shelf, states, s, data_patch, parity_patch);
+    send(cards, at.data(), pair.block);
+    send(cards, at.parity(), pair.parity);
 }
 
 // Hands down what was made ready, and answers.
 fn settle<W: WritableShelf>(
-    shelf: &mut W,
-    frame: Frame,
-    states: &[SlotState; 8],
-    s: u32,
-    j: u32,
+    cards: &mut CardSet<W>,
+    at: DataSpot,
     ready: Prepared,
 ) -> Result<WriteAnswer, Refusal>
-    requires cards { W.cards shelf.old ≡ frame.width + 1 }
-    requires within { s < W.blocks shelf.old }
-    requires placed { j < frame.width }
+    requires same { at.frame ≡ cards.old.frame }
+    requires within { at.stripe < W.blocks cards.old.shelf }
     ensures answer { result ≡ answered_by ready.looks ready.pair }
-    ensures wrote { W.conduct shelf.new ≡ after_all (W.conduct shelf.old) (sent_by frame.width (slots_in states.now) s j ready.pair) }
-    ensures cards { W.cards shelf.new ≡ W.cards shelf.old }
-    ensures blocks { W.blocks shelf.new ≡ W.blocks shelf.old }
+    ensures wrote { W.conduct cards.new.shelf ≡ after_all (W.conduct cards.old.shelf) (sent_by at.frame.width (slots_in cards.old.states) at.stripe at.index ready.pair) }
+    ensures frame { cards.new.frame ≡ cards.old.frame }
+    ensures states { cards.new.states ≡ cards.old.states }
 {
-    match ready.pair {
-        Ok(pair) => {
-            send_pair(shelf, frame, states, s, j, pair);
-            Ok(WriteAnswer { looks: ready.looks })
-        }
-        Err(e) => Err(e),
-    }
+    let pair = ready.pair?;
+    send_pair(cards, at, pair);
+    Ok(WriteAnswer { looks: ready.looks })
 }
 
-// The write of data block j of stripe s.
+// The write of a data block.
 fn write_at<W: WritableShelf, C: Checksum>(
-    shelf: &mut W,
-    frame: Frame,
-    states: &[SlotState; 8],
-    s: u32,
-    j: u32,
-    payload: &[u8; 80],
-    owner: u32,
+    cards: &mut CardSet<W>,
+    at: DataSpot,
+    kept: &Record,
     way: Way,
     findings: &mut [Finding; 8],
 ) -> Result<WriteAnswer, Refusal>
-    requires cards { W.cards shelf.old ≡ frame.width + 1 }
-    requires within { s < W.blocks shelf.old }
-    requires placed { j < frame.width }
-    ensures did { WriteDone (write_at (setup frame C.MARK C.meaning) (W.holds shelf.old) (slots_in states.now) s j payload.now owner way) (W.conduct shelf.old) (W.conduct shelf.new) result findings.new }
-    ensures cards { W.cards shelf.new ≡ W.cards shelf.old }
-    ensures blocks { W.blocks shelf.new ≡ W.blocks shelf.old }
+    requires same { at.frame ≡ cards.old.frame }
+    requires within { at.stripe < W.blocks cards.old.shelf }
+    ensures did { WriteDone (write_at (setup cards.old.frame C.MARK C.meaning) (W.holds cards.old.shelf) (slots_in cards.old.states) at.stripe at.index kept.now.payload kept.now.owner way) (W.conduct cards.old.shelf) (W.conduct cards.new.shelf) result findings.new }
+    ensures frame { cards.new.frame ≡ cards.old.frame }
+    ensures states { cards.new.states ≡ cards.old.states }
 {
-    let ready = prepare::<W, C>(shelf, frame, states, s, j, payload, owner, way, findings);
-    settle(shelf, frame, states, s, j, ready)
-}
-
-// The write to a position, or why there is none; owner 0 is refused.
-fn write_from<W: WritableShelf, C: Checksum>(
-    shelf: &mut W,
-    frame: Frame,
-    states: &[SlotState; 8],
-    position: Result<Position, Refusal>,
-    payload: &[u8; 80],
-    owner: u32,
-    way: Way,
-    findings: &mut [Finding; 8],
-) -> Result<WriteAnswer, Refusal>
-    requires cards { W.cards shelf.old ≡ frame.width + 1 }
-    requires within { Within frame.width (W.blocks shelf.old) position }
-    ensures did { WriteDone (write_from (setup frame C.MARK C.meaning) (W.holds shelf.old) (slots_in states.now) payload.now owner way findings.old position) (W.conduct shelf.old) (W.conduct shelf.new) result findings.new }
-    ensures cards { W.cards shelf.new ≡ W.cards shelf.old }
-    ensures blocks { W.blocks shelf.new ≡ W.blocks shelf.old }
-{
-    match position {
-        Ok(at) => {
-            if owner == 0 {
-                Err(Refusal::NoOwner)
-            } else {
-                write_at::<W, C>(
-                    shelf, frame, states, at.stripe, at.index, payload, owner, way, findings,
-                )
-            }
-        }
-        Err(e) => Err(e),
-    }
+    let ready = prepare::<W, C>(&cards.view(), at, kept, way, findings);
+    settle(cards, at, ready)
 }
 
 // The write of a payload of 80 bytes for an owner to an address, either way; fills the findings once it looks at the stripe.
+// A wrong length, an address that the array has not and owner 0 are refused.
+#[tactic(auto, unfolding(runs::specs::Writes::write_call))]
 pub fn write_call<W: WritableShelf, C: Checksum>(
-    shelf: &mut W,
-    frame: Frame,
-    states: &[SlotState; 8],
+    cards: &mut CardSet<W>,
     address: u32,
     owner: u32,
     payload: &[u8],
     way: Way,
     findings: &mut [Finding; 8],
 ) -> Result<WriteAnswer, Refusal>
-    requires cards { W.cards shelf.old ≡ frame.width + 1 }
-    requires blocks { W.blocks shelf.old ≡ frame.blocks }
-    ensures did { WriteDone (write_call (setup frame C.MARK C.meaning) (W.holds shelf.old) (slots_in states.now) address payload.now owner way findings.old) (W.conduct shelf.old) (W.conduct shelf.new) result findings.new }
-    ensures cards { W.cards shelf.new ≡ W.cards shelf.old }
-    ensures blocks { W.blocks shelf.new ≡ W.blocks shelf.old }
+    ensures did { WriteDone (write_call (setup cards.old.frame C.MARK C.meaning) (W.holds cards.old.shelf) (slots_in cards.old.states) address payload.now owner way findings.old) (W.conduct cards.old.shelf) (W.conduct cards.new.shelf) result findings.new }
+    ensures frame { cards.new.frame ≡ cards.old.frame }
+    ensures states { cards.new.states ≡ cards.old.states }
 {
-    if payload.len() != 80 {
-        return Err(Refusal::Length);
+    let payload = *payload.as_array::<80>().ok_or(Refusal::Length)?;
+    let at = cards.frame.data_spot(address)?;
+    if owner == 0 {
+        return Err(Refusal::NoOwner);
     }
-    let mut bytes = [0u8; 80];
-    bytes.copy_from_slice(payload);
-    let position = frame.position(address);
-    write_from::<W, C>(shelf, frame, states, position, &bytes, owner, way, findings)
+    let kept = Record { payload, owner };
+    write_at::<W, C>(cards, at, &kept, way, findings)
 }
