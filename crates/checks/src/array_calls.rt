@@ -1,6 +1,6 @@
 // Refusals of the array's calls, where two reasons apply at once, and that a refused call changes nothing.
-use array::{Array, RefusedJob};
-use block::Refusal;
+use array::Array;
+use block::{HandedBack, Refusal};
 use checksum::{Checksum, Fletcher};
 use faults::FaultLayer;
 use image::Image;
@@ -8,29 +8,33 @@ use runs::{Switch, Way};
 use shelf::{ReadableShelf, WritableShelf};
 use std::process::Abort;
 use std::test::Fail;
-use stripe::{Condition, Finding, SlotState};
+use stripe::{Finding, SlotState};
 
 type Bench = Array<FaultLayer<Image>, Fletcher>;
 
 // Three cards with two blocks each: addresses 0 to 3.
 fn bench(rt: &HostRuntime) -> Result<Bench, Fail> {
-    let Ok(image) = Image::zero(rt.alloc(), 3, 2) else {
-        return Err(Fail::new("no image"));
-    };
-    match Bench::format(FaultLayer::over(image), 9) {
-        Ok(array) => Ok(array),
-        Err(_) => Err(Fail::new("no array")),
-    }
+    let image = Image::zero(rt.alloc(), 3, 2)?;
+    Bench::format(FaultLayer::over(image), 9).map_err(|_| Fail::new("no array"))
+}
+
+// What a check of an array tells; the array is closed afterwards.
+fn on_bench<F: FnOnce(&mut Bench) -> Result<(), Fail>>(
+    rt: &HostRuntime,
+    check: F,
+) -> Result<(), Fail>
+    requires { F.IsAlwaysCallable check }
+{
+    let mut array = bench(rt)?;
+    let told = check(&mut array);
+    let _ = array.close();
+    told
 }
 
 fn blank() -> [Finding; 8] {
     [Finding {
         slot: 77,
-        block: 0,
-        condition: Condition::NotLooked,
-        layer: None,
-        lead: None,
-        mended: false,
+        ..Finding::default()
     }; 8]
 }
 
@@ -80,10 +84,7 @@ fn read_refusals(rt: &impl Abort, array: &mut Bench) -> Result<(), Fail> {
 
 #[test]
 fn reads_are_refused_by_the_smallest_number(rt: HostRuntime) -> Result<(), Fail> {
-    let mut array = bench(&rt)?;
-    let told = read_refusals(&rt, &mut array);
-    let _ = array.close();
-    told
+    on_bench(&rt, |array| read_refusals(&rt, array))
 }
 
 fn write_refusals(rt: &impl Abort, array: &mut Bench) -> Result<(), Fail> {
@@ -126,10 +127,7 @@ fn write_refusals(rt: &impl Abort, array: &mut Bench) -> Result<(), Fail> {
 
 #[test]
 fn writes_are_refused_by_the_smallest_number(rt: HostRuntime) -> Result<(), Fail> {
-    let mut array = bench(&rt)?;
-    let told = write_refusals(&rt, &mut array);
-    let _ = array.close();
-    told
+    on_bench(&rt, |array| write_refusals(&rt, array))
 }
 
 // Why a card cannot be fitted; a job that is given is given up.
@@ -156,10 +154,7 @@ fn slot_refusals(rt: &impl Abort, array: &mut Bench) -> Result<(), Fail> {
 
 #[test]
 fn slot_events_are_refused_by_the_smallest_number(rt: HostRuntime) -> Result<(), Fail> {
-    let mut array = bench(&rt)?;
-    let told = slot_refusals(&rt, &mut array);
-    let _ = array.close();
-    told
+    on_bench(&rt, |array| slot_refusals(&rt, array))
 }
 
 fn rebuild_refusals(rt: &impl Abort, array: &mut Bench) -> Result<(), Fail> {
@@ -169,7 +164,12 @@ fn rebuild_refusals(rt: &impl Abort, array: &mut Bench) -> Result<(), Fail> {
     let none = array.rebuild(&job, 0);
     let early = match array.finish(job) {
         Ok(()) => None,
-        Err(RefusedJob { refusal, job: kept }) => {
+        Err(
+            HandedBack {
+                refusal,
+                value: kept,
+            },
+        ) => {
             let _ = array.give_up(kept);
             Some(refusal)
         }
@@ -183,10 +183,7 @@ fn rebuild_refusals(rt: &impl Abort, array: &mut Bench) -> Result<(), Fail> {
 
 #[test]
 fn rebuilds_are_refused_by_the_smallest_number(rt: HostRuntime) -> Result<(), Fail> {
-    let mut array = bench(&rt)?;
-    let told = rebuild_refusals(&rt, &mut array);
-    let _ = array.close();
-    told
+    on_bench(&rt, |array| rebuild_refusals(&rt, array))
 }
 
 fn look_refusals(rt: &impl Abort, array: &mut Bench) -> Result<(), Fail> {
@@ -214,13 +211,9 @@ fn look_refusals(rt: &impl Abort, array: &mut Bench) -> Result<(), Fail> {
         )
     );
     assert!(rt; out[0] == 3 && out[159] == 3 && switch.mending);
-    match array.look(2, 2, 0, &mut switch, &mut out) {
-        Ok(answer) => {
-            assert_eq!(rt; answer.read, 1);
-            assert!(rt; matches!(answer.stopped, Some(Refusal::OtherOwner)));
-        }
-        Err(_) => return Err(Fail::new("the look was refused")),
-    }
+    let answer = array.look(2, 2, 0, &mut switch, &mut out)?;
+    assert_eq!(rt; answer.read, 1);
+    assert!(rt; matches!(answer.stopped, Some(Refusal::OtherOwner)));
     assert!(rt; out[0] == 0 && out[159] == 0 && switch.mending);
     assert!(rt; matches!(array.scrub(65537, &mut rows), Err(Refusal::Place)));
     Ok(())
@@ -228,17 +221,12 @@ fn look_refusals(rt: &impl Abort, array: &mut Bench) -> Result<(), Fail> {
 
 #[test]
 fn looks_are_refused_by_the_smallest_number(rt: HostRuntime) -> Result<(), Fail> {
-    let mut array = bench(&rt)?;
-    let told = look_refusals(&rt, &mut array);
-    let _ = array.close();
-    told
+    on_bench(&rt, |array| look_refusals(&rt, array))
 }
 
 #[test]
 fn a_tag_of_0_hands_the_shelf_back(rt: HostRuntime) -> Result<(), Fail> {
-    let Ok(image) = Image::zero(rt.alloc(), 3, 2) else {
-        return Err(Fail::new("no image"));
-    };
+    let image = Image::zero(rt.alloc(), 3, 2)?;
     match Array::<Image, Fletcher>::open(image, 0) {
         Ok(array) => {
             let _ = array.close();

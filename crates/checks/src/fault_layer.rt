@@ -6,21 +6,15 @@ use shelf::{ReadableShelf, Sight, WritableShelf};
 use std::test::Fail;
 
 fn bench(rt: &HostRuntime) -> Result<FaultLayer<Image>, Fail> {
-    match Image::zero(rt.alloc(), 3, 3) {
-        Ok(image) => Ok(FaultLayer::over(image)),
-        Err(_) => Err(Fail::new("no image")),
-    }
+    Ok(FaultLayer::over(Image::zero(rt.alloc(), 3, 3)?))
 }
 
 // The byte at an index of a place, or none where the place is blind.
 fn byte_at(layer: &FaultLayer<Image>, slot: u32, block: u32, index: usize) -> Option<u8> {
     let mut bytes = [0u8; 128];
     match layer.read(slot, block, &mut bytes) {
-        Ok(sight) => match sight {
-            Sight::Present => bytes.get(index).copied(),
-            Sight::Blind => None,
-        },
-        Err(_) => None,
+        Ok(Sight::Present) => bytes.get(index).copied(),
+        Ok(Sight::Blind) | Err(_) => None,
     }
 }
 

@@ -41,8 +41,7 @@ impl<W: WritableShelf> Counted<W> {
     pub fn into_inner(self) -> W
         ensures { result ≡ self.shelf }
     {
-        let Counted { shelf, count: _ } = self;
-        shelf
+        self.shelf
     }
 }
 

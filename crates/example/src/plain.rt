@@ -11,9 +11,9 @@ pub struct PlainSum;
 impl Checksum for PlainSum {
     const MARK: u8 = 3;
 
-    type State = u32;
+    ghost MARK = { 3 };
 
-    ghost marked = { 3 };
+    type State = u32;
 
     ghost after = { fold bit_xor };
 
@@ -24,10 +24,6 @@ impl Checksum for PlainSum {
     ghost narrow = { fits };
 
     ghost tells = { tells_apart };
-
-    fn mark_byte() -> u8 {
-        Self::MARK
-    }
 
     fn start() -> u32 {
         0

@@ -10,33 +10,14 @@ use runs::{Switch, Way};
 use shelf::{ReadableShelf, WritableShelf};
 use std::process::Abort;
 use std::test::Fail;
-use stripe::{Condition, Finding};
-
-// Findings before anything was looked at.
-fn blank() -> [Finding; 8] {
-    [Finding {
-        slot: 0,
-        block: 0,
-        condition: Condition::NotLooked,
-        layer: None,
-        lead: None,
-        mended: false,
-    }; 8]
-}
-
-fn image(rt: &HostRuntime) -> Result<Image, Fail> {
-    match Image::zero(rt.alloc(), 3, 2) {
-        Ok(image) => Ok(image),
-        Err(_) => Err(Fail::new("no image")),
-    }
-}
+use stripe::Finding;
 
 // One record is written, and read back as it was found.
 fn write_and_read(
     rt: &impl Abort,
     array: &mut Array<Counted<Image>, PlainSum>,
 ) -> Result<(), Fail> {
-    let mut findings = blank();
+    let mut findings = [Finding::default(); 8];
     array.write(1, 5, &[7; 80], Way::Subtractive, &mut findings)?;
     let mut found = [0u8; 128];
     let mut rebuilt = [0u8; 128];
@@ -50,9 +31,8 @@ fn write_and_read(
 
 #[test]
 fn counts_what_the_array_writes(rt: HostRuntime) -> Result<(), Fail> {
-    let mut array = match format_counted(image(&rt)?, 9) {
-        Ok(array) => array,
-        Err(_) => return Err(Fail::new("no array")),
+    let Ok(mut array) = format_counted(Image::zero(rt.alloc(), 3, 2)?, 9) else {
+        return Err(Fail::new("no array"));
     };
     let told = write_and_read(&rt, &mut array);
     let shelf = array.close();
@@ -63,7 +43,7 @@ fn counts_what_the_array_writes(rt: HostRuntime) -> Result<(), Fail> {
 
 #[test]
 fn counts_no_refused_write(rt: HostRuntime) -> Result<(), Fail> {
-    let mut shelf = Counted::over(image(&rt)?);
+    let mut shelf = Counted::over(Image::zero(rt.alloc(), 3, 2)?);
     assert!(rt; matches!(shelf.write(0, 0, &[1; 127]), Err(Refusal::Length)));
     assert!(rt; matches!(shelf.write(3, 0, &[1; 128]), Err(Refusal::Place)));
     assert_eq!(rt; shelf.count(), 0);
