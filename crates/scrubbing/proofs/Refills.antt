@@ -65,11 +65,6 @@ stopped : (o : Option Refusal) (x : Refusal) → Err x ≡ ok_unless {T = Unit {
 stopped None x h = cc
 stopped (Some y) x h = cc
 
--- an allowed rebuild
-pub goes : (o : Option Refusal) → Ok tt ≡ ok_unless {T = Unit {0}} o tt → o ≡ None
-goes None h = refl
-goes (Some y) h = cc
-
 module _ (E : Setup) (k : Conduct) (σ : Slots) (c n : ℕ) where
   rebuild_goes : rebuild_refused E σ c n ≡ None → rebuild_end E k σ c n ≡ refills E c n (rebuild_start k σ)
   unfolding rebuild_end

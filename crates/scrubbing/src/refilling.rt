@@ -134,7 +134,7 @@ fn refill_many<W: WritableShelf, C: Checksum>(
         mended: 0,
         lost: 0,
     };
-    for i in 0..stripes {
+    for _ in 0..stripes {
         refill_next::<W, C>(cards, slot, &mut counts);
     }
     counts

@@ -20,7 +20,7 @@ loop-i-preserved g c =
     record {
       so_far =
           so_far_more _ _ c.loop-i.i c.args.stripes _ (g.W.WritableShelf.conduct c.loop-i.cards.shelf) _ c.loop-i.cursor _ c.cursor_at-s.result c.loop-i.counts _ c.loop-i.findings _ c.sweep_one-swept.result
-              inv.so_far (rw f at c.cursor_at-s.ensures.is) (rw (f, t) at e.is) (rw (f, t) at e.wrote) (rw (f, t) at e.findings) (rw (e.frame, f) at c.cursor_next.ensures) c.count.ensures.is;
+          inv.so_far (rw f at c.cursor_at-s.ensures.is) (rw (f, t) at e.is) (rw (f, t) at e.wrote) (rw (f, t) at e.findings) (rw (e.frame, f) at c.cursor_next.ensures) c.count.ensures.is;
       frame = e.frame ∙ f;
       states = e.states ∙ t;
       looked = omega arith;

@@ -30,10 +30,10 @@ returns g c =
       is = c.swept_by.ensures ∙ ap (swept_by E.D σ s) d;
       wrote = m.wrote ∙ ap (λ x. after_all k (patch_writes σ s x)) p;
       findings = elim c.if-last.branch [
-        then-last w ↦
-          w.findings-is ∙ w.findings_all.ensures ∙ ap₂ (findings_all E.D s) V (m.slot ∙ ap (patched_slot σ s) p)
-          ∙ sym (cond-true _ _ _ w.if-last.true)
-      | else-last w ↦ w.findings-is ∙ sym (cond-false _ _ _ w.if-last.false)
+        | then-last w ↦
+            w.findings-is ∙ w.findings_all.ensures ∙ ap₂ (findings_all E.D s) V (m.slot ∙ ap (patched_slot σ s) p)
+            ∙ sym (cond-true _ _ _ w.if-last.true)
+        | else-last w ↦ w.findings-is ∙ sym (cond-false _ _ _ w.if-last.false)
       ];
       frame = refl;
       states = refl;
