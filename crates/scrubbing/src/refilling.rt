@@ -129,11 +129,7 @@ fn refill_many<W: WritableShelf, C: Checksum>(
     ensures done { RebuildDone (rebuild_end (setup cards.old.frame C.MARK C.meaning) (W.conduct cards.old.shelf) (slots_in cards.old.states) slot stripes) (W.conduct cards.new.shelf) (slots_in cards.new.states) }
     ensures frame { cards.new.frame ≡ cards.old.frame }
 {
-    let mut counts = RebuildCounts {
-        moved: 0,
-        mended: 0,
-        lost: 0,
-    };
+    let mut counts = RebuildCounts::default();
     for _ in 0..stripes {
         refill_next::<W, C>(cards, slot, &mut counts);
     }

@@ -110,13 +110,7 @@ fn sweep_many<W: WritableShelf, C: Checksum>(
     ensures frame { cards.new.frame ≡ cards.old.frame }
     ensures states { cards.new.states ≡ cards.old.states }
 {
-    let mut counts = ScrubCounts {
-        looked: 0,
-        clean: 0,
-        mended: 0,
-        short: 0,
-        lost: 0,
-    };
+    let mut counts = ScrubCounts::default();
     let mut stripe = Stripe::unseen();
     for i in 0..stripes {
         let s = cursor_at(cards.frame, *cursor);

@@ -1,14 +1,16 @@
-use Rattle.std.proofs.Common.{refl, ◌∙◌, arith}
+use Rattle.std.proofs.Common.{◌≡◌, refl, ◌∙◌, rules, arith}
 use Rattle.scrubbing.proofs.Refills.{refills_none, refills_more, rebuild_done, rebuild_ok}
 use Rattle.scrubbing.proofs.refilling.refill_many.Goals as goal
 
 pub loop-init : goal.loop-init
-loop-init g c = record {
-  so_far = refills_none _ _ _;
-  frame = refl;
-  moved = omega arith;
-  below = record { moved = omega arith; mended = omega arith; lost = omega arith };
-}
+loop-init g c =
+    let none : c.default-counts.result ≡ record { moved = 0; mended = 0; lost = 0 } = search rules in
+    record {
+      so_far = rw none (refills_none _ _ _);
+      frame = refl;
+      moved = omega arith;
+      below = record { moved = omega arith; mended = omega arith; lost = omega arith };
+    }
 
 pub loop-preserved : goal.loop-preserved
 loop-preserved g c =

@@ -1,15 +1,18 @@
-use Rattle.std.proofs.Common.{◌≡◌, refl, ◌∙◌, arith}
+use Rattle.std.proofs.Common.{◌≡◌, refl, ◌∙◌, rules, arith}
+use Rattle.runs.specs.Scrubs.{no_counts}
 use Rattle.scrubbing.proofs.Sweeps.{so_far_none, so_far_more, so_far_all, scrub_ok, scrub_done}
 use Rattle.scrubbing.proofs.sweeping.sweep_many.Goals as goal
 
 pub loop-i-init : goal.loop-i-init
-loop-i-init g c = record {
-  so_far = so_far_none _ _ _ _ _ _;
-  frame = refl;
-  states = refl;
-  looked = refl;
-  below = record { looked = omega arith; clean = omega arith; mended = omega arith; short = omega arith; lost = omega arith };
-}
+loop-i-init g c =
+    let none : c.default-counts.result ≡ no_counts = search rules in
+    record {
+      so_far = rw none (so_far_none _ _ _ _ _ _);
+      frame = refl;
+      states = refl;
+      looked = omega arith;
+      below = record { looked = omega arith; clean = omega arith; mended = omega arith; short = omega arith; lost = omega arith };
+    }
 
 pub loop-i-preserved : goal.loop-i-preserved
 loop-i-preserved g c =
