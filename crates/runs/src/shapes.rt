@@ -44,7 +44,7 @@ pub enum Swept {
 }
 
 // What a scrub answers: stripes looked at, and of these the clean, mended, short and lost ones.
-#[derive(Clone, Copy, PartialEq, Eq, Debug)]
+#[derive(Clone, Copy, PartialEq, Eq, Debug, Default)]
 pub struct ScrubCounts {
     pub looked: u32,
     pub clean: u32,
@@ -54,7 +54,7 @@ pub struct ScrubCounts {
 }
 
 // What a rebuild answers: stripes moved on, and of these the mended and lost ones.
-#[derive(Clone, Copy, PartialEq, Eq, Debug)]
+#[derive(Clone, Copy, PartialEq, Eq, Debug, Default)]
 pub struct RebuildCounts {
     pub moved: u32,
     pub mended: u32,

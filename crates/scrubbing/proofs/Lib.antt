@@ -1,4 +1,3 @@
 pub mod Put
 pub mod Refills
-pub mod Stripes
 pub mod Sweeps

@@ -1,5 +1,5 @@
 -- One more stripe of a rebuild, and its end. Assumes nothing.
-use Rattle.std.proofs.Common.{◌≡◌, ℕ, ◌+◌, Bool, List, [], ◌∷◌, Some, None, Ok, Err, Result, sym, refl, ap, ◌∙◌, ap₂, add-one}
+use Rattle.std.proofs.Common.{◌≡◌, ℕ, ◌+◌, Bool, List, [], ◌∷◌, Some, None, Ok, Err, Option, Result, sym, refl, ap, ◌∙◌, ap₂, add-one}
 use Rattle.block.specs.declared.refusal.Refusal.{Refusal}
 use Rattle.block.specs.Judging.{Setup}
 use Rattle.shelf.specs.Model.{Conduct, Write, after_all}
@@ -61,6 +61,10 @@ pub refills_more : (E : Setup) (c i : ℕ) (x₀ x y : Rebuilding) → x ≡ ref
 unfolding refills
 refills_more E c i x₀ x y inv e = e ∙ ap (refill_next E c) inv ∙ sym (ap (λ m. refills E c m x₀) (add-one i))
 
+stopped : (o : Option Refusal) (x : Refusal) → Err x ≡ ok_unless {T = Unit {0}} o tt → o ≡ Some x
+stopped None x h = cc
+stopped (Some y) x h = cc
+
 module _ (E : Setup) (k : Conduct) (σ : Slots) (c n : ℕ) where
   rebuild_goes : rebuild_refused E σ c n ≡ None → rebuild_end E k σ c n ≡ refills E c n (rebuild_start k σ)
   unfolding rebuild_end
@@ -86,11 +90,11 @@ module _ (E : Setup) (k : Conduct) (σ : Slots) (c n : ℕ) where
       ∙ sym (ap (λ o. ok_unless o (rebuild_end E k σ c n).counts) h)
 
   -- a refused rebuild changes nothing
-  pub rebuild_still : (x : Refusal) → rebuild_refused E σ c n ≡ Some x → RebuildDone (rebuild_end E k σ c n) k σ
+  pub rebuild_still : (x : Refusal) → Err x ≡ ok_unless {T = Unit {0}} (rebuild_refused E σ c n) tt → RebuildDone (rebuild_end E k σ c n) k σ
   rebuild_still x h =
-      let all = sym (rebuild_stops x h) in
+      let all = sym (rebuild_stops x (stopped _ x h)) in
       record { conduct = ap (λ (y : Rebuilding). y.conduct) all; slots = ap (λ (y : Rebuilding). y.slots) all }
 
-  pub rebuild_refused_lem : (x : Refusal) → rebuild_refused E σ c n ≡ Some x → Err x ≡ rebuild_answer E k σ c n
+  pub rebuild_refused_lem : (x : Refusal) → Err x ≡ ok_unless {T = Unit {0}} (rebuild_refused E σ c n) tt → Err x ≡ rebuild_answer E k σ c n
   unfolding rebuild_answer
-  rebuild_refused_lem x h = sym (ap (λ o. ok_unless o (rebuild_end E k σ c n).counts) h)
+  rebuild_refused_lem x h = sym (ap (λ o. ok_unless o (rebuild_end E k σ c n).counts) (stopped _ x h))

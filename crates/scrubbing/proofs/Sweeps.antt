@@ -1,8 +1,7 @@
 -- One more stripe of a scrub, and its end. Assumes nothing.
-use Rattle.std.proofs.Common.{◌≡◌, ℕ, ◌+◌, ◌≤◌, false, cond, eqb, leb, List, [], Ok, Err, Result, sym, refl, ap, ◌∙◌, ap₂, add-one}
-use Rattle.std.proofs.lemmas.Bool.{cond-true, cond-false, le-leb, eq-eqb}
+use Rattle.std.proofs.Common.{◌≡◌, ℕ, ◌+◌, ◌≤◌, cond, eqb, List, [], Ok, Result, sym, refl, ap, ◌∙◌, ap₂, add-one}
+use Rattle.std.proofs.lemmas.Bool.{cond-true, le-leb, eq-eqb}
 use Rattle.block.specs.declared.refusal.Refusal.{Refusal}
-use Rattle.block.specs.declared.refusal.Refusal.TheVariants.{Place}
 use Rattle.block.specs.Judging.{Setup}
 use Rattle.shelf.specs.Model.{Conduct, after_all}
 use Rattle.stripe.specs.declared.shapes.Finding.{Finding}
@@ -72,10 +71,6 @@ module _ (E : Setup) (k : Conduct) (σ : Slots) (c n : ℕ) (fs : List Finding) 
   unfolding scrub_end
   scrub_few h = cond-true _ _ _ (le-leb n 65536 h)
 
-  scrub_many : leb n 65536 ≡ false → scrub_end E k σ c n fs ≡ scrub_start k c fs
-  unfolding scrub_end
-  scrub_many h = cond-false _ _ _ h
-
   -- the end of an accepted scrub
   pub scrub_done : (i : ℕ) (k' : Conduct) (c' : ℕ) (m : ScrubCounts) (fs' : List Finding) → n ≤ 65536 → i ≡ n
       → scrubbing k' c' m fs' ≡ sweeps E σ i (scrub_start k c fs) → ScrubDone (scrub_end E k σ c n fs) k' c' fs'
@@ -89,13 +84,3 @@ module _ (E : Setup) (k : Conduct) (σ : Slots) (c n : ℕ) (fs : List Finding) 
   scrub_ok i k' c' m fs' h q e =
       let made : ScrubCounts → Result ScrubCounts Refusal = Ok in
       ap (λ (x : Scrubbing). made x.counts) (e ∙ ap (λ j. sweeps E σ j (scrub_start k c fs)) q ∙ sym (scrub_few h)) ∙ sym (cond-true _ _ _ (le-leb n 65536 h))
-
-  -- a refused scrub changes nothing
-  pub scrub_still : leb n 65536 ≡ false → ScrubDone (scrub_end E k σ c n fs) k c fs
-  scrub_still h =
-      let all = sym (scrub_many h) in
-      record { conduct = ap (λ (x : Scrubbing). x.conduct) all; cursor = ap (λ (x : Scrubbing). x.cursor) all; findings = ap (λ (x : Scrubbing). x.findings) all }
-
-  pub scrub_refused : leb n 65536 ≡ false → Err Place ≡ scrub_answer E k σ c n fs
-  unfolding scrub_answer
-  scrub_refused h = sym (cond-false _ _ _ h)

@@ -1,7 +1,6 @@
 // Scrub and rebuild of an array on a shelf.
 #![tactic(auto)]
 
-mod limits;
 mod refilling;
 mod sweeping;
 

@@ -1,23 +1,30 @@
-use Rattle.std.proofs.Common.{◌≡◌, refl, ◌∙◌, arith}
+use Rattle.std.proofs.Common.{◌≡◌, refl, ◌∙◌, rules, arith}
 use Rattle.scrubbing.proofs.Refills.{refills_none, refills_more, rebuild_done, rebuild_ok}
 use Rattle.scrubbing.proofs.refilling.refill_many.Goals as goal
 
-pub loop-i-init : goal.loop-i-init
-loop-i-init g c = (refills_none _ _ _, refl, refl, record { moved = omega arith; mended = omega arith; lost = omega arith })
-
-pub loop-i-preserved : goal.loop-i-preserved
-loop-i-preserved g c =
-    let inv = c.loop-i.invariant in
-    let e = c.refill_next-counts.ensures in
-    (refills_more _ _ c.loop-i.i _ _ _ inv.0 e.did, e.cards ∙ inv.1, e.blocks ∙ inv.2, e.below)
-
-pub returns : goal.returns
-returns g c =
-    let inv = c.loop-i.invariant in
-    let n : c.loop-i.i ≡ c.args.stripes = omega arith in
+pub loop-init : goal.loop-init
+loop-init g c =
+    let none : c.default-counts.result ≡ record { moved = 0; mended = 0; lost = 0 } = search rules in
     record {
-      answer = rebuild_ok _ _ _ _ _ _ _ _ _ c.requires.allowed n inv.0;
-      done = rebuild_done _ _ _ _ _ _ _ _ _ c.requires.allowed n inv.0;
-      cards = inv.1;
-      blocks = inv.2;
+      so_far = rw none (refills_none _ _ _);
+      frame = refl;
+      moved = omega arith;
+      below = record { moved = omega arith; mended = omega arith; lost = omega arith };
     }
+
+pub loop-preserved : goal.loop-preserved
+loop-preserved g c =
+    let inv = c.loop.invariant in
+    let e = c.refill_next.ensures in
+    record {
+      so_far = refills_more _ _ c.loop.counter _ _ _ inv.so_far (rw inv.frame at e.did);
+      frame = e.frame ∙ inv.frame;
+      moved = omega arith;
+      below = e.below;
+    }
+
+pub returns-clause-answer : goal.returns-clause-answer
+returns-clause-answer g c = rebuild_ok _ _ _ _ _ _ _ _ _ c.requires.allowed (omega arith) c.loop.invariant.so_far
+
+pub returns-clause-done : goal.returns-clause-done
+returns-clause-done g c = rebuild_done _ _ _ _ _ _ _ _ _ c.requires.allowed (omega arith) c.loop.invariant.so_far
