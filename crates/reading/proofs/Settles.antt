@@ -1,9 +1,8 @@
 -- The parts of a read come to the read. Assumes nothing.
-use Rattle.std.proofs.Common.{◌≡◌, ℕ, ◌≤◌, Bool, true, false, cond, ◌&&◌, eqb, List, length, Ok, Err, Option, Result, sym, refl, ap, ◌∙◌, ap₂}
+use Rattle.std.proofs.Common.{◌≡◌, ℕ, ◌≤◌, Bool, true, false, cond, ◌&&◌, List, length, Ok, Option, Result, refl, ap, ◌∙◌, ap₂}
 use mathlib.Core.Path.{subst⁻¹}
-use Rattle.std.proofs.lemmas.Bool.{cond-true, cond-false}
+use Rattle.std.proofs.lemmas.Bool.{cond-true, eq-eqb}
 use Rattle.block.specs.declared.refusal.Refusal.{Refusal}
-use Rattle.block.specs.declared.refusal.Refusal.TheVariants.{Length}
 use Rattle.block.specs.declared.shapes.Position.{Position}
 use Rattle.block.specs.declared.shapes.Role.TheVariants.{Parity, Data}
 use Rattle.block.specs.Judging.{Setup}
@@ -72,28 +71,12 @@ module _ (E : Setup) (h : Content) (σ : Slots) (s j : ℕ) (w : E.D ≤ 7) wher
         tally = en ∙ ap (λ (x : Settled). x.tally) ez;
       }
 
-module _ (E : Setup) (h : Content) (σ : Slots) (t L o : ℕ) (on : Bool) (f b : List ℕ) (fs : List Finding) (k : Conduct) where
-  -- a wrong length
-  pub done_length : (eqb (length f) 128 && eqb (length b) 128) ≡ false
-      → ReadDone (read_call E h σ t L o on f b fs) k k (Err Length) f b fs t
-  unfolding read_call
-  done_length e =
-      subst⁻¹ (λ (x : Reading). ReadDone x k k (Err Length) f b fs t) (cond-false _ _ _ e)
-      (record { answer = refl; found = refl; rebuilt = refl; findings = refl; writes = refl; tally = refl })
-
-  -- an address beyond the array
-  pub done_beyond : (e : Refusal) → (eqb (length f) 128 && eqb (length b) 128) ≡ true → Err e ≡ position_of E.D E.S L
-      → ReadDone (read_call E h σ t L o on f b fs) k k (Err e) f b fs t
-  unfolding read_call
-  done_beyond e l p =
-      subst⁻¹ (λ (x : Reading). ReadDone x k k (Err e) f b fs t) (cond-true _ _ _ l ∙ ap (read_from E h σ t o on f b fs) (sym p))
-      (record { answer = refl; found = refl; rebuilt = refl; findings = refl; writes = refl; tally = refl })
-
-  -- a position in the array
-  pub done_within : (a : Position) (k' : Conduct) (r : Result ReadAnswer Refusal) (f' b' : List ℕ) (fs' : List Finding) (t' : ℕ)
-      → (eqb (length f) 128 && eqb (length b) 128) ≡ true → Ok a ≡ position_of E.D E.S L
-      → ReadDone (read_at E h σ t a.stripe a.index o on) k k' r f' b' fs' t'
-      → ReadDone (read_call E h σ t L o on f b fs) k k' r f' b' fs' t'
-  unfolding read_call
-  done_within a k' r f' b' fs' t' l p d =
-      subst⁻¹ (λ (x : Reading). ReadDone x k k' r f' b' fs' t') (cond-true _ _ _ l ∙ ap (read_from E h σ t o on f b fs) (sym p)) d
+-- the read of a position in the array is the read of its address
+pub done_within : (E : Setup) (h : Content) (σ : Slots) (t L o : ℕ) (on : Bool) (f b : List ℕ) (fs : List Finding) (a : Position) {k k' : Conduct} {r : Result ReadAnswer Refusal} {f' b' : List ℕ} {fs' : List Finding} {t' : ℕ}
+    → length f ≡ 128 → length b ≡ 128 → position_of E.D E.S L ≡ Ok a
+    → ReadDone (read_at E h σ t a.stripe a.index o on) k k' r f' b' fs' t'
+    → ReadDone (read_call E h σ t L o on f b fs) k k' r f' b' fs' t'
+unfolding read_call
+done_within E h σ t L o on f b fs a {k} {k'} {r} {f'} {b'} {fs'} {t'} lf lb p d =
+    subst⁻¹ (λ (x : Reading). ReadDone x k k' r f' b' fs' t')
+    (cond-true _ _ _ (ap₂ ◌&&◌ (eq-eqb _ _ lf) (eq-eqb _ _ lb)) ∙ ap (read_from E h σ t o on f b fs) p) d

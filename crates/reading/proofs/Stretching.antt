@@ -1,19 +1,15 @@
 -- The reads of a stretch, one after the other. Assumes nothing.
-use Rattle.std.proofs.Common.{◌≡◌, ℕ, suc, ◌+◌, ◌-◌, ◌*◌, ◌<◌, ◌≤◌, true, false, eqb, List, [], ◌++◌, length, take, replicate, Some, None, Ok, Err, Option, Result, sym, refl, ap, ◌∙◌, subst, ap₂, append_assoc, append-nil, arith, take_all}
-use mathlib.Core.Path.{subst⁻¹}
-use Rattle.std.proofs.lemmas.Bool.{cond-true, cond-false}
+use Rattle.std.proofs.Common.{◌≡◌, ℕ, suc, ◌+◌, ◌-◌, ◌*◌, ◌<◌, ◌≤◌, List, [], ◌++◌, length, take, replicate, Some, None, Ok, Err, Option, Result, sym, ap, ◌∙◌, ap₂, append_assoc, append-nil, arith, take_all}
 use Rattle.block.specs.declared.refusal.Refusal.{Refusal}
-use Rattle.block.specs.declared.refusal.Refusal.TheVariants.{Length, Address}
 use Rattle.block.specs.Judging.{Setup}
 use Rattle.shelf.specs.Model.{Content}
 use Rattle.stripe.specs.View.{Slots}
 use Rattle.runs.specs.declared.shapes.LookAnswer.{LookAnswer}
 use Rattle.runs.specs.declared.shapes.ReadAnswer.{ReadAnswer}
-use Rattle.runs.specs.Done.{LookDone}
-use Rattle.runs.specs.Looks.{Looking, Seen, one_more, look_read, look_step, look_from, looked, look_call}
+use Rattle.runs.specs.Looks.{Seen, one_more, look_read, look_step, look_from}
 use Rattle.runs.specs.Reads.{shown_from}
 use Rattle.reading.specs.declared.shapes.Settled.{Settled}
-use Rattle.reading.specs.Stretches.{settled_in, seen_as, preceded, stretch_in}
+use Rattle.reading.specs.Stretches.{settled_in, seen_as, preceded}
 
 -- a step by what was read
 step_ok : (y x : Settled) (a : ReadAnswer) (m : ℕ) (rest : ℕ → Seen) → y ≡ x → y.answer ≡ Ok a
@@ -100,27 +96,3 @@ module _ (E : Setup) (k : Content) (σ : Slots) (o : ℕ) where
       sym (left_more n L t₀ i out t l s
       ∙ ap (preceded bs i) (step_err y (settled_in (look_read E k σ o t (L + i))) e m (λ z. look_from E k σ o m (L + i + 1) z) ey ea)
       ∙ ap₂ (seen (Some e) y.tally) p (ap (λ z. bs ++ replicate z 0) q ∙ sym eo))
-
-module _ (E : Setup) (k : Content) (σ : Slots) (t first n o : ℕ) (out : List ℕ) where
-  -- a wrong length
-  pub look_length : eqb (length out) (80 * n) ≡ false → LookDone (look_call E k σ t first n o out) (Err Length) out t
-  unfolding look_call
-  look_length e =
-      subst⁻¹ (λ (x : Looking). LookDone x (Err Length) out t) (cond-false _ _ _ e) (record { answer = refl; out = refl; tally = refl })
-
-  -- a stretch beyond the array
-  pub look_beyond : eqb (length out) (80 * n) ≡ true → stretch_in E.D E.S first n ≡ false
-      → LookDone (look_call E k σ t first n o out) (Err Address) out t
-  unfolding look_call
-  look_beyond e b =
-      subst⁻¹ (λ (x : Looking). LookDone x (Err Address) out t) (cond-true _ _ _ e ∙ cond-false _ _ _ b)
-      (record { answer = refl; out = refl; tally = refl })
-
-  -- a stretch in the array
-  pub look_within : (a : LookAnswer) (out' : List ℕ) (t' : ℕ) → eqb (length out) (80 * n) ≡ true
-      → stretch_in E.D E.S first n ≡ true → seen_as a out' t' ≡ look_from E k σ o n first t
-      → LookDone (look_call E k σ t first n o out) (Ok a) out' t'
-  unfolding look_call
-  look_within a out' t' e b s =
-      subst⁻¹ (λ (x : Looking). LookDone x (Ok a) out' t') (cond-true _ _ _ e ∙ cond-true _ _ _ b)
-      (subst (λ (x : Seen). LookDone (looked x) (Ok a) out' t') s (record { answer = refl; out = refl; tally = refl }))

@@ -1,7 +1,5 @@
 -- What a read holds on its way.
-use Rattle.std.specs.Prelude.{ℕ, cond, List, Some, None, Ok, Err, Option, Result, ◌==◌}
-use Rattle.block.specs.declared.refusal.Refusal.{Refusal}
-use Rattle.block.specs.declared.refusal.Refusal.TheVariants.{OtherOwner}
+use Rattle.std.specs.Prelude.{ℕ, cond, List, Some, None, Option}
 use Rattle.block.specs.declared.shapes.Role.TheVariants.{Parity, Data}
 use Rattle.block.specs.Shapes.{Verdict}
 use Rattle.block.specs.Judging.{Setup}
@@ -10,8 +8,6 @@ use Rattle.stripe.specs.declared.shapes.Stripe.{Stripe}
 use Rattle.stripe.specs.Findings.{findings_all, findings_quick}
 use Rattle.stripe.specs.View.{View, stripe_of, as_view}
 use Rattle.runs.specs.declared.shapes.Gathered.{Gathered}
-use Rattle.runs.specs.declared.shapes.ReadAnswer.{ReadAnswer}
-use Rattle.runs.specs.declared.shapes.Source.{Source}
 use Rattle.runs.specs.Gather.{quick, gathered_quick, gathered_all}
 use Rattle.runs.specs.Reads.{read_answer, found_buffer, rebuilt_buffer, tallied}
 use Rattle.reading.specs.declared.shapes.Settled.{Settled}
@@ -29,10 +25,6 @@ sighted_all E s t j = record { gathered = gathered_all E s (as_view t.parity t.�
 unfoldable pub sighted : Setup → ℕ → View → ℕ → Sighted
 sighted E s V j =
     cond (quick (V (Data j)) (V Parity) j) (sighted_quick (V (Data j))) (sighted_all E s (stripe_of V) j)
-
--- an answer from one of the two buffers, unless the block has another owner
-abbrev pub owned_answer : Source → ℕ → ℕ → ℕ → Result ReadAnswer Refusal
-owned_answer x n stored asked = cond (stored == asked) (Ok (record { source = x; looks = n })) (Err OtherOwner)
 
 -- what a read of owner o gives, with the tally t so far
 abbrev pub settled_of : Gathered → ℕ → ℕ → Settled

@@ -1,163 +1,88 @@
 // How a read obtains a block from a stripe.
 ghost use Rattle.std.specs.Prelude.{◌≡◌, ◌+◌, ◌<◌};
 ghost use Rattle.block.specs.Judging.{setup};
-ghost use Rattle.stripe.specs.View.{as_view, slots_in, view_of};
+ghost use Rattle.stripe.specs.View.{seen_in, slots_in, view_of};
 ghost use Rattle.runs.specs.Done.{PatchBelow};
-ghost use Rattle.runs.specs.Gather.{quick, as_found, as_rebuilt, gathered_all, gathered};
-ghost use Rattle.reading.specs.Sights.{sighted_quick, sighted_all, sighted};
+ghost use Rattle.runs.specs.Gather.{as_found, as_rebuilt, gathered_all, gathered};
+ghost use Rattle.reading.specs.Sights.{sighted};
 
 use crate::shapes::Sighted;
-use block::{Frame, Role, Verdict, version};
+use block::{DataSpot, Verdict};
 use checksum::Checksum;
-use patches::patch_of;
+use patches::{patch_of, quick};
 use runs::{Gathered, Obtained, Patch};
 use shelf::ReadableShelf;
-use stripe::{SlotState, Stripe, bad_role, judge_place, look};
-
-// Whether data block j and parity are both readable with lead 0.
-pub fn quick(block: &Verdict, parity: &Verdict, j: u32) -> bool
-    requires { j < 7 }
-    ensures { result ≡ quick block.now parity.now j }
-{
-    match block {
-        Err(_) => false,
-        Ok(b) => match parity {
-            Err(_) => false,
-            Ok(p) => version(b, 0) == version(p, j),
-        },
-    }
-}
+use stripe::{CardView, Stripe};
 
 // A block that is given as found.
 fn as_found(block: &Verdict) -> Obtained
     ensures { result ≡ as_found block.now }
 {
-    match block {
-        Err(_) => Obtained::Lost,
-        Ok(b) => Obtained::Found(*b),
-    }
+    block.map_or(Obtained::Lost, Obtained::Found)
 }
 
 // A block of the mask: the patch's, if there is one.
 fn as_rebuilt(patch: &Option<Patch>) -> Obtained
     ensures { result ≡ as_rebuilt patch.now }
 {
-    match patch {
-        None => Obtained::Lost,
-        Some(p) => Obtained::Rebuilt(p.bytes),
-    }
+    patch.map_or(Obtained::Lost, |p| Obtained::Rebuilt(p.bytes))
 }
 
-// Data block j of stripe s, all of whose places were looked at.
-fn gather_all<C: Checksum>(
-    parity: &Verdict,
-    data: &[Verdict; 7],
-    frame: Frame,
-    s: u32,
-    j: u32,
-) -> Gathered
-    requires placed { j < frame.width }
-    ensures below { PatchBelow (frame.width + 1) result.patch }
-    ensures is { result ≡ gathered_all (setup frame C.MARK C.meaning) s (as_view parity.now «data».now) j }
+// A data block, once all places of its stripe were looked at.
+#[tactic(auto, unfolding(runs::specs::Gather::gathered_all))]
+fn gather_all<C: Checksum>(stripe: &Stripe, at: DataSpot) -> Gathered
+    ensures below { PatchBelow (at.frame.width + 1) result.patch }
+    ensures is { result ≡ gathered_all (setup at.frame C.MARK C.meaning) at.stripe (seen_in stripe.now) at.index }
 {
-    let patch = patch_of::<C>(parity, data, frame, s);
-    let looks = frame.width + 1;
-    if bad_role(parity, data, frame, Role::Data(j)) {
-        Gathered {
-            obtained: as_rebuilt(&patch),
-            looks,
-            patch,
-        }
+    let patch = patch_of::<C>(stripe, at.frame, at.stripe);
+    let obtained = if stripe.is_bad(at.data()) {
+        as_rebuilt(&patch)
     } else {
-        Gathered {
-            obtained: as_found(&data[j as usize]),
-            looks,
-            patch,
-        }
-    }
-}
-
-// The block and its parity alone were looked at, both readable with lead 0.
-fn sight_quick(block: &Verdict) -> Sighted
-    ensures { result ≡ sighted_quick block.now }
-{
-    let gathered = Gathered {
-        obtained: as_found(block),
-        looks: 2,
-        patch: None,
+        as_found(stripe.data_at(at.index))
     };
-    Sighted {
-        gathered,
-        stripe: None,
+    Gathered {
+        obtained,
+        looks: at.frame.width + 1,
+        patch,
     }
 }
 
-// All places of stripe s were looked at.
-fn sight_all<C: Checksum>(stripe: Stripe, frame: Frame, s: u32, j: u32) -> Sighted
-    requires placed { j < frame.width }
-    ensures below { PatchBelow (frame.width + 1) result.gathered.patch }
-    ensures is { result ≡ sighted_all (setup frame C.MARK C.meaning) s stripe j }
+// Looks at a data block and its parity, and at all places of the stripe if these do not suffice.
+#[tactic(auto, unfolding(crate::specs::Sights::sighted))]
+pub(crate) fn sight<R: ReadableShelf, C: Checksum>(cards: &CardView<R>, at: DataSpot) -> Sighted
+    requires same { at.frame ≡ cards.now.frame }
+    requires within { at.stripe < R.blocks cards.now.shelf.now }
+    ensures below { PatchBelow (cards.now.frame.width + 1) result.gathered.patch }
+    ensures is { result ≡ sighted (setup cards.now.frame C.MARK C.meaning) at.stripe (view_of (setup cards.now.frame C.MARK C.meaning) (R.holds cards.now.shelf.now) (slots_in cards.now.states.now) at.stripe) at.index }
 {
-    let gathered = gather_all::<C>(&stripe.parity, &stripe.data, frame, s, j);
-    Sighted {
-        gathered,
-        stripe: Some(stripe),
-    }
-}
-
-// Data block j of stripe s, judged alone.
-fn sight_data<R: ReadableShelf, C: Checksum>(
-    shelf: &R,
-    frame: Frame,
-    states: &[SlotState; 8],
-    s: u32,
-    j: u32,
-) -> Verdict
-    requires cards { R.cards shelf.now ≡ frame.width + 1 }
-    requires within { s < R.blocks shelf.now }
-    requires placed { j < frame.width }
-    ensures { result ≡ view_of (setup frame C.MARK C.meaning) (R.holds shelf.now) (slots_in states.now) s (Role.Data j) }
-{
-    judge_place::<R, C>(shelf, frame, states, s, Role::Data(j))
-}
-
-// Looks at data block j of stripe s and its parity, and at all places if these do not suffice.
-pub(crate) fn sight<R: ReadableShelf, C: Checksum>(
-    shelf: &R,
-    frame: Frame,
-    states: &[SlotState; 8],
-    s: u32,
-    j: u32,
-) -> Sighted
-    requires cards { R.cards shelf.now ≡ frame.width + 1 }
-    requires within { s < R.blocks shelf.now }
-    requires placed { j < frame.width }
-    ensures below { PatchBelow (frame.width + 1) result.gathered.patch }
-    ensures is { result ≡ sighted (setup frame C.MARK C.meaning) s (view_of (setup frame C.MARK C.meaning) (R.holds shelf.now) (slots_in states.now) s) j }
-{
-    let block = sight_data::<R, C>(shelf, frame, states, s, j);
-    let parity = judge_place::<R, C>(shelf, frame, states, s, Role::Parity);
-    if quick(&block, &parity, j) {
-        sight_quick(&block)
+    let block = cards.judge::<C>(at.data());
+    let parity = cards.judge::<C>(at.parity());
+    if quick(&block, &parity, at.index) {
+        let gathered = Gathered {
+            obtained: as_found(&block),
+            looks: 2,
+            patch: None,
+        };
+        Sighted {
+            gathered,
+            stripe: None,
+        }
     } else {
-        sight_all::<C>(look::<R, C>(shelf, frame, states, s), frame, s, j)
+        let stripe = cards.look::<C>(at.stripe);
+        Sighted {
+            gathered: gather_all::<C>(&stripe, at),
+            stripe: Some(stripe),
+        }
     }
 }
 
-// What a read makes of data block j of stripe s.
-pub fn gather<R: ReadableShelf, C: Checksum>(
-    shelf: &R,
-    frame: Frame,
-    states: &[SlotState; 8],
-    s: u32,
-    j: u32,
-) -> Gathered
-    requires cards { R.cards shelf.now ≡ frame.width + 1 }
-    requires within { s < R.blocks shelf.now }
-    requires placed { j < frame.width }
-    ensures below { PatchBelow (frame.width + 1) result.patch }
-    ensures is { result ≡ gathered (setup frame C.MARK C.meaning) s (view_of (setup frame C.MARK C.meaning) (R.holds shelf.now) (slots_in states.now) s) j }
+// What a read makes of a data block.
+#[tactic(auto, using(crate::proofs::Settles::sighted_gathered))]
+pub fn gather<R: ReadableShelf, C: Checksum>(cards: &CardView<R>, at: DataSpot) -> Gathered
+    requires same { at.frame ≡ cards.now.frame }
+    requires within { at.stripe < R.blocks cards.now.shelf.now }
+    ensures below { PatchBelow (cards.now.frame.width + 1) result.patch }
+    ensures is { result ≡ gathered (setup cards.now.frame C.MARK C.meaning) at.stripe (view_of (setup cards.now.frame C.MARK C.meaning) (R.holds cards.now.shelf.now) (slots_in cards.now.states.now) at.stripe) at.index }
 {
-    let sighted = sight::<R, C>(shelf, frame, states, s, j);
-    sighted.gathered
+    sight::<R, C>(cards, at).gathered
 }

@@ -7,7 +7,8 @@ mod reading;
 mod shapes;
 mod showing;
 
-pub use gathering::{gather, quick};
+pub use gathering::gather;
 pub use looking::look_call;
+pub use patches::quick;
 pub use reading::read_call;
 pub use showing::show;

@@ -10,88 +10,58 @@ use crate::gathering::gather;
 use crate::reading::settle;
 use crate::shapes::Settled;
 use crate::showing::payload_of;
-use block::{Frame, Refusal};
+use block::{DataSpot, Frame, Refusal};
 use checksum::Checksum;
 use runs::LookAnswer;
 use shelf::ReadableShelf;
-use stripe::SlotState;
-
-// Writes bytes at a place; the clause speaks of the front of the row, up to where the bytes end.
-fn put(out: &mut [u8], at: usize, src: &[u8])
-    requires { at + length src.now ≤ length out.old }
-    ensures { take (at + length src.now) out.new ≡ take at out.old ++ src.now }
-{
-    out[at..at + src.len()].copy_from_slice(src);
-}
-
-// Writes zeros from a place on.
-fn zero_from(out: &mut [u8], at: usize)
-    requires { at ≤ length out.old }
-    ensures { out.new ≡ take at out.old ++ replicate (length out.old - at) 0 }
-{
-    let end = out.len();
-    out[at..end].fill(0);
-}
-
-// Writes zeros for the blocks of a look from number i on.
-fn blank_from(out: &mut [u8], i: u32)
-    requires { 80 * i ≤ length out.old }
-    ensures { out.new ≡ take (80 * i) out.old ++ replicate (length out.old - 80 * i) 0 }
-{
-    zero_from(out, 80 * i as usize);
-}
+use stripe::CardView;
 
 // The read of one address of a look; nothing is mended.
+#[tactic(auto, unfolding(runs::specs::Reads::read_at))]
 fn look_read<R: ReadableShelf, C: Checksum>(
-    shelf: &R,
-    frame: Frame,
-    states: &[SlotState; 8],
+    cards: &CardView<R>,
     tally: u32,
     address: u32,
     owner: u32,
 ) -> Settled
-    requires cards { R.cards shelf.now ≡ frame.width + 1 }
-    requires blocks { R.blocks shelf.now ≡ frame.blocks }
-    requires within { address < frame.width * frame.blocks }
-    ensures { result ≡ settled_in (look_read (setup frame C.MARK C.meaning) (R.holds shelf.now) (slots_in states.now) owner tally address) }
+    requires blocks { R.blocks cards.now.shelf.now ≡ cards.now.frame.blocks }
+    requires within { address < cards.now.frame.width * cards.now.frame.blocks }
+    ensures { result ≡ settled_in (look_read (setup cards.now.frame C.MARK C.meaning) (R.holds cards.now.shelf.now) (slots_in cards.now.states.now) owner tally address) }
 {
-    let gathered = gather::<R, C>(
-        shelf,
+    let frame = cards.frame;
+    let at = DataSpot {
         frame,
-        states,
-        address / frame.width,
-        address % frame.width,
-    );
-    settle(&gathered, tally, owner)
+        stripe: address / frame.width,
+        index: address % frame.width,
+    };
+    settle(&gather::<R, C>(cards, at), tally, owner)
 }
 
 // The reads of a stretch; what is not read after a stop is zero.
 fn look_from<R: ReadableShelf, C: Checksum>(
-    shelf: &R,
-    frame: Frame,
-    states: &[SlotState; 8],
+    cards: &CardView<R>,
     tally: &mut u32,
     first: u32,
     count: u32,
     owner: u32,
     out: &mut [u8],
 ) -> LookAnswer
-    requires cards { R.cards shelf.now ≡ frame.width + 1 }
-    requires blocks { R.blocks shelf.now ≡ frame.blocks }
-    requires within { first + count ≤ frame.width * frame.blocks }
+    requires blocks { R.blocks cards.now.shelf.now ≡ cards.now.frame.blocks }
+    requires within { first + count ≤ cards.now.frame.width * cards.now.frame.blocks }
     requires long { length out.old ≡ 80 * count }
-    ensures { seen_as result out.new tally.new ≡ look_from (setup frame C.MARK C.meaning) (R.holds shelf.now) (slots_in states.now) owner count first tally.old }
+    ensures { seen_as result out.new tally.new ≡ look_from (setup cards.now.frame C.MARK C.meaning) (R.holds cards.now.shelf.now) (slots_in cards.now.states.now) owner count first tally.old }
 {
     for i in 0..count {
-        let settled = look_read::<R, C>(shelf, frame, states, *tally, first + i, owner);
+        let settled = look_read::<R, C>(cards, *tally, first + i, owner);
         *tally = settled.tally;
+        let start = 80 * i as usize;
         match settled.answer {
             Ok(a) => {
                 let payload = payload_of(a.source, &settled.found, &settled.rebuilt);
-                put(out, 80 * i as usize, payload);
+                out[start..start + 80].copy_from_slice(payload);
             }
             Err(e) => {
-                blank_from(out, i);
+                out[start..].fill(0);
                 return LookAnswer {
                     read: i,
                     stopped: Some(e),
@@ -113,45 +83,25 @@ fn is_stretch(frame: Frame, first: u32, count: u32) -> bool
     u64::from(first) < top && u64::from(first) + u64::from(count) <= top
 }
 
-// The reads of a stretch, into a buffer of any length.
-fn look_checked<R: ReadableShelf, C: Checksum>(
-    shelf: &R,
-    frame: Frame,
-    states: &[SlotState; 8],
+// A look at count addresses from the first on, for an owner, into 80 bytes each. A buffer of another length is refused first,
+// then a stretch beyond the array. The look stops at the first block that is lost or has another owner; nothing is mended.
+#[tactic(auto, unfolding(runs::specs::Looks::look_call))]
+pub fn look_call<R: ReadableShelf, C: Checksum>(
+    cards: &CardView<R>,
     tally: &mut u32,
     first: u32,
     count: u32,
     owner: u32,
     out: &mut [u8],
 ) -> Result<LookAnswer, Refusal>
-    requires cards { R.cards shelf.now ≡ frame.width + 1 }
-    requires blocks { R.blocks shelf.now ≡ frame.blocks }
-    ensures { LookDone (look_call (setup frame C.MARK C.meaning) (R.holds shelf.now) (slots_in states.now) tally.old first count owner out.old) result out.new tally.new }
+    requires blocks { R.blocks cards.now.shelf.now ≡ cards.now.frame.blocks }
+    ensures { LookDone (look_call (setup cards.now.frame C.MARK C.meaning) (R.holds cards.now.shelf.now) (slots_in cards.now.states.now) tally.old first count owner out.old) result out.new tally.new }
 {
     if out.len() != 80 * count as usize {
         return Err(Refusal::Length);
     }
-    if !is_stretch(frame, first, count) {
+    if !is_stretch(cards.frame, first, count) {
         return Err(Refusal::Address);
     }
-    Ok(look_from::<R, C>(shelf, frame, states, tally, first, count, owner, out))
-}
-
-// A look at count addresses from the first on, for an owner, into 80 bytes each. A buffer of another length is refused first,
-// then a stretch beyond the array. The look stops at the first block that is lost or has another owner; nothing is mended.
-pub fn look_call<R: ReadableShelf, C: Checksum>(
-    shelf: &R,
-    frame: Frame,
-    states: &[SlotState; 8],
-    tally: &mut u32,
-    first: u32,
-    count: u32,
-    owner: u32,
-    out: &mut [u8],
-) -> Result<LookAnswer, Refusal>
-    requires cards { R.cards shelf.now ≡ frame.width + 1 }
-    requires blocks { R.blocks shelf.now ≡ frame.blocks }
-    ensures { LookDone (look_call (setup frame C.MARK C.meaning) (R.holds shelf.now) (slots_in states.now) tally.old first count owner out.old) result out.new tally.new }
-{
-    look_checked::<R, C>(shelf, frame, states, tally, first, count, owner, out)
+    Ok(look_from::<R, C>(cards, tally, first, count, owner, out))
 }

@@ -1,4 +1,6 @@
-use Rattle.std.proofs.Common.{◌≡◌, ◌+◌, ◌*◌, ◌++◌, length, take, sym, ap, ◌∙◌, arith}
+use Rattle.std.proofs.Common.{◌≡◌, ◌+◌, ◌-◌, ◌*◌, [], ◌++◌, length, take, drop, replicate, ap, ap₂, ◌∙◌, append-nil, length-drop, arith, rules}
+use Rattle.std.proofs.lemmas.List.{drop_all}
+use Rattle.std.proofs.lemmas.Slice.{take-put_mid}
 use Rattle.reading.proofs.Stretching.{so_far_none, so_far_more, so_far_all, so_far_stop}
 use Rattle.reading.proofs.looking.look_from.Goals as goal
 
@@ -8,16 +10,26 @@ loop-i-init g c = so_far_none _ _ _ _ _ _ _ c.args.out.now
 pub loop-i-preserved : goal.loop-i-preserved
 loop-i-preserved g c =
     let i = c.loop-i.i in
-    let e = c.payload_of-payload.ensures in
-    so_far_more _ _ _ _ c.args.count c.args.first _ i c.loop-i.out c.put.new.out _ c.look_read-settled.result c.in-Ok.a
+    let xs = c.loop-i.out in
+    let ys = c.copy_from_slice.new.self in
+    let e = c.copy_from_slice.ensures.after in
+    let long : length ys ≡ 80 = ap length e ∙ c.payload_of-payload.ensures.long in
+    so_far_more _ _ _ _ c.args.count c.args.first _ i xs _ _ c.look_read-settled.result c.in-Ok.a
     (omega arith) c.loop-i.invariant c.look_read-settled.ensures c.in-Ok.is
-    (ap (λ n. take (80 * i + n) c.put.new.out) (sym e.long) ∙ c.put.ensures ∙ ap (λ x. take (80 * i) c.loop-i.out ++ x) e.is)
+    (take-put_mid (80 * i) _ xs ys (80 * i + 80) (omega arith) (omega arith)
+    ∙ ap (λ z. take (80 * i) xs ++ z) (e ∙ c.payload_of-payload.ensures.is))
 
 pub returns-in-Err : goal.returns-in-Err
 returns-in-Err g c =
-    let h : length c.loop-i.out ≡ 80 * c.args.count = omega arith in
-    so_far_stop _ _ _ _ c.args.count c.args.first _ c.loop-i.i c.loop-i.out c.blank_from.new.out _ c.look_read-settled.result _
-    (omega arith) h c.loop-i.invariant c.look_read-settled.ensures c.in-Err.is c.blank_from.ensures
+    let xs = c.loop-i.out in
+    let a = 80 * c.loop-i.i in
+    let n = length xs - a in
+    let h : length xs ≡ 80 * c.args.count = omega arith in
+    let zeros : c.fill.new.self ≡ replicate n 0 = search rules in
+    let none : drop n (drop a xs) ≡ [] = drop_all n (drop a xs) (omega (arith, length-drop a xs)) in
+    so_far_stop _ _ _ _ c.args.count c.args.first _ c.loop-i.i xs _ _ c.look_read-settled.result _
+    (omega arith) h c.loop-i.invariant c.look_read-settled.ensures c.in-Err.is
+    (ap₂ (λ ys zs. take a xs ++ (ys ++ zs)) zeros none ∙ ap (λ z. take a xs ++ z) (append-nil (replicate n 0)))
 
 pub returns : goal.returns
 returns g c =
