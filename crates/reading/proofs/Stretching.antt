@@ -4,7 +4,6 @@ use Rattle.block.specs.declared.refusal.Refusal.{Refusal}
 use Rattle.block.specs.Judging.{Setup}
 use Rattle.shelf.specs.Model.{Content}
 use Rattle.stripe.specs.View.{Slots}
-use Rattle.runs.specs.declared.shapes.LookAnswer.{LookAnswer}
 use Rattle.runs.specs.declared.shapes.ReadAnswer.{ReadAnswer}
 use Rattle.runs.specs.Looks.{Seen, one_more, look_read, look_step, look_from}
 use Rattle.runs.specs.Reads.{shown_from}

@@ -1,5 +1,5 @@
 // Looking at a stretch of addresses.
-ghost use Rattle.std.specs.Prelude.{◌≡◌, ◌+◌, ◌-◌, ◌*◌, ◌<◌, ◌≤◌, ◌++◌, length, take, replicate};
+ghost use Rattle.std.specs.Prelude.{◌≡◌, ◌+◌, ◌*◌, ◌<◌, ◌≤◌, length};
 ghost use Rattle.block.specs.Judging.{setup};
 ghost use Rattle.stripe.specs.View.{slots_in};
 ghost use Rattle.runs.specs.Done.{LookDone};
@@ -38,6 +38,7 @@ fn look_read<R: ReadableShelf, C: Checksum>(
 }
 
 // The reads of a stretch; what is not read after a stop is zero.
+#[tactic(auto, using(crate::proofs::Stretching::so_far_none, crate::proofs::Stretching::so_far_all))]
 fn look_from<R: ReadableShelf, C: Checksum>(
     cards: &CardView<R>,
     tally: &mut u32,

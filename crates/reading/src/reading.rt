@@ -1,5 +1,5 @@
 // Reading a block.
-ghost use Rattle.std.specs.Prelude.{◌≡◌, ℕ, ◌+◌, ◌<◌};
+ghost use Rattle.std.specs.Prelude.{◌≡◌, ℕ};
 ghost use Rattle.block.specs.Judging.{setup};
 ghost use Rattle.stripe.specs.View.{slots_in};
 ghost use Rattle.runs.specs.Done.{PatchBelow, ReadDone};

@@ -1,11 +1,8 @@
 use Rattle.std.proofs.Common.{◌≡◌, ◌+◌, ◌-◌, ◌*◌, [], ◌++◌, length, take, drop, replicate, ap, ap₂, ◌∙◌, append-nil, length-drop, arith, rules}
 use Rattle.std.proofs.lemmas.List.{drop_all}
 use Rattle.std.proofs.lemmas.Slice.{take-put_mid}
-use Rattle.reading.proofs.Stretching.{so_far_none, so_far_more, so_far_all, so_far_stop}
+use Rattle.reading.proofs.Stretching.{so_far_more, so_far_stop}
 use Rattle.reading.proofs.looking.look_from.Goals as goal
-
-pub loop-i-init : goal.loop-i-init
-loop-i-init g c = so_far_none _ _ _ _ _ _ _ c.args.out.now
 
 pub loop-i-preserved : goal.loop-i-preserved
 loop-i-preserved g c =
@@ -13,7 +10,8 @@ loop-i-preserved g c =
     let xs = c.loop-i.out in
     let ys = c.copy_from_slice.new.self in
     let e = c.copy_from_slice.ensures.after in
-    let long : length ys ≡ 80 = ap length e ∙ c.payload_of-payload.ensures.long in
+    let m = c.payload_of-payload.ensures.long in
+    let long : length ys ≡ 80 = cc in
     so_far_more _ _ _ _ c.args.count c.args.first _ i xs _ _ c.look_read-settled.result c.in-Ok.a
     (omega arith) c.loop-i.invariant c.look_read-settled.ensures c.in-Ok.is
     (take-put_mid (80 * i) _ xs ys (80 * i + 80) (omega arith) (omega arith)
@@ -30,8 +28,3 @@ returns-in-Err g c =
     so_far_stop _ _ _ _ c.args.count c.args.first _ c.loop-i.i xs _ _ c.look_read-settled.result _
     (omega arith) h c.loop-i.invariant c.look_read-settled.ensures c.in-Err.is
     (ap₂ (λ ys zs. take a xs ++ (ys ++ zs)) zeros none ∙ ap (λ z. take a xs ++ z) (append-nil (replicate n 0)))
-
-pub returns : goal.returns
-returns g c =
-    let h : length c.loop-i.out ≡ 80 * c.args.count = omega arith in
-    so_far_all _ _ _ _ c.args.count c.args.first _ c.loop-i.i c.loop-i.out _ (omega arith) h c.loop-i.invariant

@@ -20,8 +20,8 @@ returns-clause-done g c =
     let σ = slots_in k.states in
     done_within E h σ _ _ _ _ _ _ _ _ c.if-found-ne128.false c.if-rebuilt-ne128.false e.0
     (done_from E h σ at.stripe at.index k.frame.most _ _ _
-        c.sight-sighted.result c.settle-settled.result _ _ _ _ _ _ _ _
-        (cc) c.settle-settled.ensures c.read_patch-patch.ensures.is c.apply_patch-mended.ensures.slot
-        c.apply_patch-mended.ensures.wrote
-        (c.fill_findings.ensures ∙ ap (λ (f : Frame). findings_from f.width at.stripe at.index c.sight-sighted.result.stripe c.apply_patch-mended.result) e.1)
-        c.copy_from_slice.ensures.after c.copy_from_slice-2.ensures.after refl)
+    c.sight-sighted.result c.settle-settled.result _ _ _ _ _ _ _ _
+    (cc) c.settle-settled.ensures c.read_patch-patch.ensures.is c.apply_patch-mended.ensures.slot
+    c.apply_patch-mended.ensures.wrote
+    (c.fill_findings.ensures ∙ ap (λ (f : Frame). findings_from f.width at.stripe at.index c.sight-sighted.result.stripe c.apply_patch-mended.result) e.1)
+    c.copy_from_slice.ensures.after c.copy_from_slice-2.ensures.after refl)
