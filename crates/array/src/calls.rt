@@ -65,14 +65,7 @@ impl<W: WritableShelf, C: Checksum> Array<W, C> {
         ensures cursor { self.new.cursor ≡ self.old.cursor }
         ensures tally { self.new.tally ≡ self.old.tally }
     {
-        write_call::<W, C>(
-            &mut self.cards,
-            address,
-            owner,
-            payload,
-            way,
-            findings,
-        )
+        write_call::<W, C>(&mut self.cards, address, owner, payload, way, findings)
     }
 
     // Looks at so many stripes from the cursor on, and mends each that has one bad block, unless its place takes no writes.
@@ -88,12 +81,7 @@ impl<W: WritableShelf, C: Checksum> Array<W, C> {
         ensures states { self.new.cards.states ≡ self.old.cards.states }
         ensures tally { self.new.tally ≡ self.old.tally }
     {
-        scrub_call::<W, C>(
-            &mut self.cards,
-            &mut self.cursor,
-            stripes,
-            findings,
-        )
+        scrub_call::<W, C>(&mut self.cards, &mut self.cursor, stripes, findings)
     }
 
     // Rebuilds at most so many stripes of the job's slot, from where it stands.
@@ -104,11 +92,7 @@ impl<W: WritableShelf, C: Checksum> Array<W, C> {
         ensures cursor { self.new.cursor ≡ self.old.cursor }
         ensures tally { self.new.tally ≡ self.old.tally }
     {
-        rebuild_call::<W, C>(
-            &mut self.cards,
-            job.slot(),
-            stripes,
-        )
+        rebuild_call::<W, C>(&mut self.cards, job.slot(), stripes)
     }
 
     // Reads a stretch of addresses for one owner with mending off, 80 bytes each, up to the first block that is lost or

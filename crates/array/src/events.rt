@@ -28,6 +28,7 @@ impl RebuildJob {
 
 impl<W: WritableShelf, C: Checksum> Array<W, C> {
     // An event of a slot, on this shelf. A slot that the shelf has not is refused first.
+    #[tactic(auto, unfolding(runs::specs::Slots::event_state))]
     fn turn(&mut self, slot: u32, event: Event) -> Result<(), Refusal>
         ensures answer { result ≡ answered tt (event_state (setup self.old.cards.frame C.MARK C.meaning) (slots_in self.old.cards.states) slot event) }
         ensures slots { slots_in self.new.cards.states ≡ event_slots (setup self.old.cards.frame C.MARK C.meaning) (slots_in self.old.cards.states) slot event }
