@@ -9,14 +9,14 @@ use stripe::{Decision, Plan, Stripe};
 
 // The two data blocks of the only stripe of three cards.
 #[derive(Clone, Copy)]
-struct Blocks {
+struct Pair {
     first: DataSpot,
     second: DataSpot,
 }
 
-fn blocks() -> Result<Blocks, Fail> {
+fn pair() -> Result<Pair, Fail> {
     let frame = Frame::new(3, 1, 9)?;
-    Ok(Blocks {
+    Ok(Pair {
         first: frame.data_spot(0)?,
         second: frame.data_spot(1)?,
     })
@@ -30,7 +30,7 @@ fn record(byte: u8, owner: u32) -> Record {
     }
 }
 
-impl Blocks {
+impl Pair {
     fn first_block(self, byte: u8, version: u32) -> [u8; 128] {
         new_data::<Fletcher>(self.first, &record(byte, 41), version)
     }
@@ -75,17 +75,17 @@ impl Blocks {
 // Parity recomputed from the data as soon as they disagree: the stale payload 4 is then given for the accepted 5.
 #[test]
 fn parity_recomputed_from_stale_data(rt: HostRuntime) -> Result<(), Fail> {
-    let blocks = blocks()?;
-    let stale = blocks.first_block(4, 1);
-    let other = blocks.second_block(6, 1);
-    let parity = blocks.parity_block(5 ^ 6, 2, 1);
-    let seen = blocks.judged(&stale, &other, &parity);
-    assert!(rt; matches!(blocks.decision(&seen), Decision::Only(Role::Data(0))));
-    let right = blocks.mended_first(&seen);
+    let pair = new_pair()?;
+    let stale = pair.first_block(4, 1);
+    let other = pair.second_block(6, 1);
+    let parity = pair.parity_block(5 ^ 6, 2, 1);
+    let seen = pair.judged(&stale, &other, &parity);
+    assert!(rt; matches!(pair.decision(&seen), Decision::Only(Role::Data(0))));
+    let right = pair.mended_first(&seen);
     assert_eq!(rt; right[0], 5);
-    let wrong = mended_block::<Fletcher>(&seen, blocks.first.parity());
-    let after = blocks.judged(&stale, &other, &wrong);
-    assert!(rt; matches!(blocks.decision(&after), Decision::Clean));
+    let wrong = mended_block::<Fletcher>(&seen, pair.first.parity());
+    let after = pair.judged(&stale, &other, &wrong);
+    assert!(rt; matches!(pair.decision(&after), Decision::Clean));
     assert_eq!(rt; stale[0], 4);
     Ok(())
 }
@@ -94,21 +94,21 @@ fn parity_recomputed_from_stale_data(rt: HostRuntime) -> Result<(), Fail> {
 // and the write of 7 that the data card loses stays hidden.
 #[test]
 fn version_taken_from_parity_that_is_behind(rt: HostRuntime) -> Result<(), Fail> {
-    let blocks = blocks()?;
-    let kept = blocks.first_block(5, 2);
-    let other = blocks.second_block(6, 1);
-    let behind = blocks.parity_block(4 ^ 6, 1, 1);
-    let seen = blocks.judged(&kept, &other, &behind);
-    assert!(rt; matches!(blocks.decision(&seen), Decision::Only(Role::Parity)));
-    assert_eq!(rt; base_version(&seen, blocks.first), 2);
-    let right = blocks.parity_of_7(&seen, Plan::ByAll, true, 3);
-    let found = blocks.judged(&kept, &other, &right);
-    assert!(rt; matches!(blocks.decision(&found), Decision::Only(Role::Data(0))));
-    let mended = blocks.mended_first(&found);
+    let pair = new_pair()?;
+    let kept = pair.first_block(5, 2);
+    let other = pair.second_block(6, 1);
+    let behind = pair.parity_block(4 ^ 6, 1, 1);
+    let seen = pair.judged(&kept, &other, &behind);
+    assert!(rt; matches!(pair.decision(&seen), Decision::Only(Role::Parity)));
+    assert_eq!(rt; base_version(&seen, pair.first), 2);
+    let right = pair.parity_of_7(&seen, Plan::ByAll, true, 3);
+    let found = pair.judged(&kept, &other, &right);
+    assert!(rt; matches!(pair.decision(&found), Decision::Only(Role::Data(0))));
+    let mended = pair.mended_first(&found);
     assert_eq!(rt; mended[0], 7);
-    let wrong = blocks.parity_of_7(&seen, Plan::ByAll, true, 2);
-    let hidden = blocks.judged(&kept, &other, &wrong);
-    assert!(rt; matches!(blocks.decision(&hidden), Decision::Clean));
+    let wrong = pair.parity_of_7(&seen, Plan::ByAll, true, 2);
+    let hidden = pair.judged(&kept, &other, &wrong);
+    assert!(rt; matches!(pair.decision(&hidden), Decision::Clean));
     assert_eq!(rt; kept[0], 5);
     Ok(())
 }
@@ -117,17 +117,17 @@ fn version_taken_from_parity_that_is_behind(rt: HostRuntime) -> Result<(), Fail>
 // block that it writes is readable and level with parity.
 #[test]
 fn rebuild_from_unjudged_blocks(rt: HostRuntime) -> Result<(), Fail> {
-    let blocks = blocks()?;
+    let pair = new_pair()?;
     let lost = [0u8; 128];
-    let stale = blocks.second_block(0, 1);
-    let parity = blocks.parity_block(5 ^ 6, 2, 2);
-    let seen = blocks.judged(&lost, &stale, &parity);
-    assert!(rt; matches!(blocks.decision(&seen), Decision::Lost));
-    let wrong = blocks.mended_first(&seen);
+    let stale = pair.second_block(0, 1);
+    let parity = pair.parity_block(5 ^ 6, 2, 2);
+    let seen = pair.judged(&lost, &stale, &parity);
+    assert!(rt; matches!(pair.decision(&seen), Decision::Lost));
+    let wrong = pair.mended_first(&seen);
     assert_eq!(rt; wrong[0], 3);
     assert_eq!(rt; version(&wrong, 0), 2);
-    let after = blocks.judged(&wrong, &stale, &parity);
-    assert!(rt; matches!(blocks.decision(&after), Decision::Only(Role::Data(1))));
+    let after = pair.judged(&wrong, &stale, &parity);
+    assert!(rt; matches!(pair.decision(&after), Decision::Only(Role::Data(1))));
     Ok(())
 }
 
@@ -135,21 +135,21 @@ fn rebuild_from_unjudged_blocks(rt: HostRuntime) -> Result<(), Fail> {
 // accepted 6 can no longer be rebuilt.
 #[test]
 fn all_data_summed_beside_a_stale_block(rt: HostRuntime) -> Result<(), Fail> {
-    let blocks = blocks()?;
-    let old = blocks.first_block(5, 2);
-    let stale = blocks.second_block(3, 1);
-    let parity = blocks.parity_block(5 ^ 6, 2, 2);
-    let seen = blocks.judged(&old, &stale, &parity);
-    assert!(rt; matches!(plan_of(&seen, blocks.first), Plan::BySum));
-    let new = blocks.first_block(7, 3);
-    let right = blocks.parity_of_7(&seen, Plan::BySum, false, 3);
-    let found = blocks.judged(&new, &stale, &right);
-    let mended = blocks.mended_second(&found);
+    let pair = new_pair()?;
+    let old = pair.first_block(5, 2);
+    let stale = pair.second_block(3, 1);
+    let parity = pair.parity_block(5 ^ 6, 2, 2);
+    let seen = pair.judged(&old, &stale, &parity);
+    assert!(rt; matches!(plan_of(&seen, pair.first), Plan::BySum));
+    let new = pair.first_block(7, 3);
+    let right = pair.parity_of_7(&seen, Plan::BySum, false, 3);
+    let found = pair.judged(&new, &stale, &right);
+    let mended = pair.mended_second(&found);
     assert_eq!(rt; mended[0], 6);
-    let wrong = blocks.parity_of_7(&seen, Plan::ByAll, false, 3);
-    let spoilt = blocks.judged(&new, &stale, &wrong);
-    assert!(rt; matches!(blocks.decision(&spoilt), Decision::Only(Role::Data(1))));
-    let given = blocks.mended_second(&spoilt);
+    let wrong = pair.parity_of_7(&seen, Plan::ByAll, false, 3);
+    let spoilt = pair.judged(&new, &stale, &wrong);
+    assert!(rt; matches!(pair.decision(&spoilt), Decision::Only(Role::Data(1))));
+    let given = pair.mended_second(&spoilt);
     assert_eq!(rt; given[0], 3);
     Ok(())
 }

@@ -1,6 +1,6 @@
 // An array over the counting layer, with the plain sum.
 ghost use Rattle.std.specs.Prelude.{◌≡◌, ◌≤◌, IfOk, MatchResult};
-ghost use Rattle.value.specs.Model.{after_all};
+ghost use Rattle.shelf.specs.Model.{after_all};
 ghost use Rattle.stripe.specs.Survey.{setup_on};
 ghost use Rattle.stripe.specs.View.{slots_in, all_in};
 ghost use Rattle.runs.specs.Formats.{format_writes};
