@@ -1,5 +1,5 @@
 -- One more stripe of a rebuild, and its end. Assumes nothing.
-use Rattle.std.proofs.Common.{◌≡◌, ℕ, ◌+◌, Bool, List, [], ◌∷◌, Some, None, Ok, Err, Option, Result, sym, refl, ap, ◌∙◌, ap₂, add-one}
+use Rattle.std.proofs.Common.{◌≡◌, ℕ, suc, ◌+◌, Bool, List, [], ◌∷◌, Some, None, Ok, Err, Option, Result, sym, refl, ap, ◌∙◌, ap₂, add-one}
 use Rattle.block.specs.declared.refusal.Refusal.{Refusal}
 use Rattle.block.specs.Judging.{Setup}
 use Rattle.shelf.specs.Model.{Conduct, Write, after_all}
@@ -49,9 +49,7 @@ pub refill_is : (E : Setup) (c s : ℕ) (k k' : Conduct) (σ σ' : Slots) (n n' 
     → rebuilding k' σ' n' ≡ refill E c s (rebuilding k σ n)
 unfolding refill
 refill_is E c s k k' σ σ' n n' b eb ek eσ en =
-    ap₂ (λ (a : Conduct) (m : RebuildCounts). rebuilding a σ' m) ek (en ∙ ap (recounted_by n) eb ∙ by_any n (rebuild_writes E (k []) σ s c))
-    ∙ ap (λ (τ : Slots). rebuilding (after_all k (rebuild_writes E (k []) σ s c)) τ (recounted n (rebuild_writes E (k []) σ s c)))
-    (eσ ∙ ap (λ m. put_slot σ c (Filling m)) (add-one s))
+    rw (ek, eσ, add-one s, en, eb) (ap (rebuilding (after_all k (rebuild_writes E (k []) σ s c)) (put_slot σ c (Filling (suc s)))) (by_any n (rebuild_writes E (k []) σ s c)))
 
 pub refills_none : (E : Setup) (c : ℕ) (x : Rebuilding) → x ≡ refills E c 0 x
 unfolding refills
@@ -59,7 +57,7 @@ refills_none E c x = refl
 
 pub refills_more : (E : Setup) (c i : ℕ) (x₀ x y : Rebuilding) → x ≡ refills E c i x₀ → y ≡ refill_next E c x → y ≡ refills E c (i + 1) x₀
 unfolding refills
-refills_more E c i x₀ x y inv e = e ∙ ap (refill_next E c) inv ∙ sym (ap (λ m. refills E c m x₀) (add-one i))
+refills_more E c i x₀ x y inv e = rw (add-one i, ← inv) e
 
 stopped : (o : Option Refusal) (x : Refusal) → Err x ≡ ok_unless {T = Unit {0}} o tt → o ≡ Some x
 stopped None x h = cc

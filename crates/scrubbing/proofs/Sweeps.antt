@@ -41,14 +41,7 @@ sweeps_more : (E : Setup) (σ : Slots) (i : ℕ) (x₀ : Scrubbing) (k k' : Cond
     → fs' ≡ sweep_findings E (k []) σ s → c' ≡ cursor_next E.S s → n' ≡ counted n w
     → scrubbing k' c' n' fs' ≡ sweeps E σ (i + 1) x₀
 unfolding sweeps sweep
-sweeps_more E σ i x₀ k k' c c' s n n' fs fs' w inv es ew ek ef ec en =
-    ap₂ (λ (a : Conduct) (m : ScrubCounts). scrubbing a c' m fs') ek (en ∙ ap (counted n) ew)
-    ∙ ap₂ (λ (a : ℕ) (gs : List Finding). scrubbing (after_all k (sweep_writes E (k []) σ s)) a (counted n (swept_of E (k []) σ s)) gs) ec ef
-    ∙ ap
-    (λ (z : ℕ).
-    scrubbing (after_all k (sweep_writes E (k []) σ z)) (cursor_next E.S z) (counted n (swept_of E (k []) σ z)) (sweep_findings E (k []) σ z))
-    es
-    ∙ ap (sweep E σ) inv ∙ sym (ap (λ m. sweeps E σ m x₀) (add-one i))
+sweeps_more E σ i x₀ k k' c c' s n n' fs fs' w inv es ew ek ef ec en = rw (add-one i, ← inv, ek, ef, ec, en, ew, es) refl
 
 -- one more stripe, which fills the findings if it is the last
 pub so_far_more : (E : Setup) (σ : Slots) (i n : ℕ) (x₀ : Scrubbing) (k k' : Conduct) (c c' s : ℕ) (m m' : ScrubCounts) (fs fs' : List Finding) (w : Swept)
