@@ -1,5 +1,5 @@
 -- One more stripe of a rebuild, and its end. Assumes nothing.
-use Rattle.std.proofs.Common.{◌≡◌, ℕ, suc, ◌+◌, Bool, List, [], ◌∷◌, Some, None, Ok, Err, Option, Result, sym, refl, ap, ◌∙◌, ap₂, add-one}
+use Rattle.std.proofs.Common.{◌≡◌, ℕ, suc, ◌+◌, Bool, List, [], ◌∷◌, Some, None, Ok, Err, Option, refl, ap, add-one}
 use Rattle.block.specs.declared.refusal.Refusal.{Refusal}
 use Rattle.block.specs.Judging.{Setup}
 use Rattle.shelf.specs.Model.{Conduct, Write, after_all}
@@ -22,7 +22,6 @@ use Rattle.runs.specs.Slots.{
   refills,
   rebuild_start,
   rebuild_refused,
-  unless,
   rebuild_end,
   ok_unless,
   rebuild_answer,
@@ -66,33 +65,23 @@ stopped (Some y) x h = cc
 module _ (E : Setup) (k : Conduct) (σ : Slots) (c n : ℕ) where
   rebuild_goes : rebuild_refused E σ c n ≡ None → rebuild_end E k σ c n ≡ refills E c n (rebuild_start k σ)
   unfolding rebuild_end
-  rebuild_goes e = ap (λ o. unless o (refills E c n (rebuild_start k σ)) (rebuild_start k σ)) e
-
-  rebuild_stops : (x : Refusal) → rebuild_refused E σ c n ≡ Some x → rebuild_end E k σ c n ≡ rebuild_start k σ
-  unfolding rebuild_end
-  rebuild_stops x e = ap (λ o. unless o (refills E c n (rebuild_start k σ)) (rebuild_start k σ)) e
+  rebuild_goes e = rw e
 
   -- the end of an accepted rebuild
   pub rebuild_done : (i : ℕ) (k' : Conduct) (σ' : Slots) (m : RebuildCounts) → rebuild_refused E σ c n ≡ None → i ≡ n
       → rebuilding k' σ' m ≡ refills E c i (rebuild_start k σ) → RebuildDone (rebuild_end E k σ c n) k' σ'
-  rebuild_done i k' σ' m h q e =
-      let all = e ∙ ap (λ j. refills E c j (rebuild_start k σ)) q ∙ sym (rebuild_goes h) in
-      record { conduct = ap (λ (x : Rebuilding). x.conduct) all; slots = ap (λ (x : Rebuilding). x.slots) all }
+  rebuild_done i k' σ' m h q e = rw (rebuild_goes h, ← q, ← e) record { conduct = refl; slots = refl }
 
   pub rebuild_ok : (i : ℕ) (k' : Conduct) (σ' : Slots) (m : RebuildCounts) → rebuild_refused E σ c n ≡ None → i ≡ n
       → rebuilding k' σ' m ≡ refills E c i (rebuild_start k σ) → Ok m ≡ rebuild_answer E k σ c n
   unfolding rebuild_answer
-  rebuild_ok i k' σ' m h q e =
-      let made : RebuildCounts → Result RebuildCounts Refusal = Ok in
-      ap (λ (x : Rebuilding). made x.counts) (e ∙ ap (λ j. refills E c j (rebuild_start k σ)) q ∙ sym (rebuild_goes h))
-      ∙ sym (ap (λ o. ok_unless o (rebuild_end E k σ c n).counts) h)
+  rebuild_ok i k' σ' m h q e = rw (h, rebuild_goes h, ← q, ← e) refl
 
   -- a refused rebuild changes nothing
   pub rebuild_still : (x : Refusal) → Err x ≡ ok_unless {T = Unit {0}} (rebuild_refused E σ c n) tt → RebuildDone (rebuild_end E k σ c n) k σ
-  rebuild_still x h =
-      let all = sym (rebuild_stops x (stopped _ x h)) in
-      record { conduct = ap (λ (y : Rebuilding). y.conduct) all; slots = ap (λ (y : Rebuilding). y.slots) all }
+  unfolding rebuild_end
+  rebuild_still x h = rw (stopped _ x h) record { conduct = refl; slots = refl }
 
   pub rebuild_refused_lem : (x : Refusal) → Err x ≡ ok_unless {T = Unit {0}} (rebuild_refused E σ c n) tt → Err x ≡ rebuild_answer E k σ c n
   unfolding rebuild_answer
-  rebuild_refused_lem x h = sym (ap (λ o. ok_unless o (rebuild_end E k σ c n).counts) (stopped _ x h))
+  rebuild_refused_lem x h = rw (stopped _ x h) refl

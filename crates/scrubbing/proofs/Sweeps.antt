@@ -1,7 +1,6 @@
 -- One more stripe of a scrub, and its end. Assumes nothing.
-use Rattle.std.proofs.Common.{◌≡◌, ℕ, ◌+◌, ◌≤◌, cond, eqb, List, [], Ok, Result, sym, refl, ap, ◌∙◌, ap₂, add-one}
+use Rattle.std.proofs.Common.{◌≡◌, ℕ, ◌+◌, ◌≤◌, cond, eqb, List, [], Ok, sym, refl, ap, ◌∙◌, add-one}
 use Rattle.std.proofs.lemmas.Bool.{cond-true, le-leb, eq-eqb}
-use Rattle.block.specs.declared.refusal.Refusal.{Refusal}
 use Rattle.block.specs.Judging.{Setup}
 use Rattle.shelf.specs.Model.{Conduct, after_all}
 use Rattle.stripe.specs.declared.shapes.Finding.{Finding}
@@ -67,13 +66,9 @@ module _ (E : Setup) (k : Conduct) (σ : Slots) (c n : ℕ) (fs : List Finding) 
   -- the end of an accepted scrub
   pub scrub_done : (i : ℕ) (k' : Conduct) (c' : ℕ) (m : ScrubCounts) (fs' : List Finding) → n ≤ 65536 → i ≡ n
       → scrubbing k' c' m fs' ≡ sweeps E σ i (scrub_start k c fs) → ScrubDone (scrub_end E k σ c n fs) k' c' fs'
-  scrub_done i k' c' m fs' h q e =
-      let all = e ∙ ap (λ j. sweeps E σ j (scrub_start k c fs)) q ∙ sym (scrub_few h) in
-      record { conduct = ap (λ (x : Scrubbing). x.conduct) all; cursor = ap (λ (x : Scrubbing). x.cursor) all; findings = ap (λ (x : Scrubbing). x.findings) all }
+  scrub_done i k' c' m fs' h q e = rw (scrub_few h, ← q, ← e) record { conduct = refl; cursor = refl; findings = refl }
 
   pub scrub_ok : (i : ℕ) (k' : Conduct) (c' : ℕ) (m : ScrubCounts) (fs' : List Finding) → n ≤ 65536 → i ≡ n
       → scrubbing k' c' m fs' ≡ sweeps E σ i (scrub_start k c fs) → Ok m ≡ scrub_answer E k σ c n fs
   unfolding scrub_answer
-  scrub_ok i k' c' m fs' h q e =
-      let made : ScrubCounts → Result ScrubCounts Refusal = Ok in
-      ap (λ (x : Scrubbing). made x.counts) (e ∙ ap (λ j. sweeps E σ j (scrub_start k c fs)) q ∙ sym (scrub_few h)) ∙ sym (cond-true _ _ _ (le-leb n 65536 h))
+  scrub_ok i k' c' m fs' h q e = rw (le-leb n 65536 h, scrub_few h, ← q, ← e) refl
