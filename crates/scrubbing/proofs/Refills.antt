@@ -63,19 +63,16 @@ stopped None x h = cc
 stopped (Some y) x h = cc
 
 module _ (E : Setup) (k : Conduct) (σ : Slots) (c n : ℕ) where
-  rebuild_goes : rebuild_refused E σ c n ≡ None → rebuild_end E k σ c n ≡ refills E c n (rebuild_start k σ)
-  unfolding rebuild_end
-  rebuild_goes e = rw e
-
   -- the end of an accepted rebuild
   pub rebuild_done : (i : ℕ) (k' : Conduct) (σ' : Slots) (m : RebuildCounts) → rebuild_refused E σ c n ≡ None → i ≡ n
       → rebuilding k' σ' m ≡ refills E c i (rebuild_start k σ) → RebuildDone (rebuild_end E k σ c n) k' σ'
-  rebuild_done i k' σ' m h q e = rw (rebuild_goes h, ← q, ← e) record { conduct = refl; slots = refl }
+  unfolding rebuild_end
+  rebuild_done i k' σ' m h q e = rw (h, ← q, ← e) record { conduct = refl; slots = refl }
 
   pub rebuild_ok : (i : ℕ) (k' : Conduct) (σ' : Slots) (m : RebuildCounts) → rebuild_refused E σ c n ≡ None → i ≡ n
       → rebuilding k' σ' m ≡ refills E c i (rebuild_start k σ) → Ok m ≡ rebuild_answer E k σ c n
-  unfolding rebuild_answer
-  rebuild_ok i k' σ' m h q e = rw (h, rebuild_goes h, ← q, ← e) refl
+  unfolding rebuild_answer rebuild_end
+  rebuild_ok i k' σ' m h q e = rw (h, ← q, ← e) refl
 
   -- a refused rebuild changes nothing
   pub rebuild_still : (x : Refusal) → Err x ≡ ok_unless {T = Unit {0}} (rebuild_refused E σ c n) tt → RebuildDone (rebuild_end E k σ c n) k σ

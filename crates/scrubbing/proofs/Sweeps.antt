@@ -59,16 +59,13 @@ pub so_far_all : (k : Conduct) (c : ℕ) (m : ScrubCounts) (fs : List Finding) (
 so_far_all k c m fs n i x e f = ap (scrubbing k c m) (f.filled e) ∙ f.same
 
 module _ (E : Setup) (k : Conduct) (σ : Slots) (c n : ℕ) (fs : List Finding) where
-  scrub_few : n ≤ 65536 → scrub_end E k σ c n fs ≡ sweeps E σ n (scrub_start k c fs)
-  unfolding scrub_end
-  scrub_few h = cond-true _ _ _ (le-leb n 65536 h)
-
   -- the end of an accepted scrub
   pub scrub_done : (i : ℕ) (k' : Conduct) (c' : ℕ) (m : ScrubCounts) (fs' : List Finding) → n ≤ 65536 → i ≡ n
       → scrubbing k' c' m fs' ≡ sweeps E σ i (scrub_start k c fs) → ScrubDone (scrub_end E k σ c n fs) k' c' fs'
-  scrub_done i k' c' m fs' h q e = rw (scrub_few h, ← q, ← e) record { conduct = refl; cursor = refl; findings = refl }
+  unfolding scrub_end
+  scrub_done i k' c' m fs' h q e = rw (le-leb n 65536 h, ← q, ← e) record { conduct = refl; cursor = refl; findings = refl }
 
   pub scrub_ok : (i : ℕ) (k' : Conduct) (c' : ℕ) (m : ScrubCounts) (fs' : List Finding) → n ≤ 65536 → i ≡ n
       → scrubbing k' c' m fs' ≡ sweeps E σ i (scrub_start k c fs) → Ok m ≡ scrub_answer E k σ c n fs
-  unfolding scrub_answer
-  scrub_ok i k' c' m fs' h q e = rw (le-leb n 65536 h, scrub_few h, ← q, ← e) refl
+  unfolding scrub_answer scrub_end
+  scrub_ok i k' c' m fs' h q e = rw (le-leb n 65536 h, ← q, ← e) refl
