@@ -1,5 +1,5 @@
 -- One more stripe of a rebuild, and its end. Assumes nothing.
-use Rattle.std.proofs.Common.{◌≡◌, ℕ, ◌+◌, Bool, List, [], ◌∷◌, Some, None, Ok, Err, Option, Result, sym, refl, ap, ◌∙◌, ap₂, add-one}
+use Rattle.std.proofs.Common.{◌≡◌, ℕ, suc, ◌+◌, Bool, List, [], ◌∷◌, Some, None, Ok, Err, Option, refl, ap, add-one}
 use Rattle.block.specs.declared.refusal.Refusal.{Refusal}
 use Rattle.block.specs.Judging.{Setup}
 use Rattle.shelf.specs.Model.{Conduct, Write, after_all}
@@ -22,7 +22,6 @@ use Rattle.runs.specs.Slots.{
   refills,
   rebuild_start,
   rebuild_refused,
-  unless,
   rebuild_end,
   ok_unless,
   rebuild_answer,
@@ -49,9 +48,7 @@ pub refill_is : (E : Setup) (c s : ℕ) (k k' : Conduct) (σ σ' : Slots) (n n' 
     → rebuilding k' σ' n' ≡ refill E c s (rebuilding k σ n)
 unfolding refill
 refill_is E c s k k' σ σ' n n' b eb ek eσ en =
-    ap₂ (λ (a : Conduct) (m : RebuildCounts). rebuilding a σ' m) ek (en ∙ ap (recounted_by n) eb ∙ by_any n (rebuild_writes E (k []) σ s c))
-    ∙ ap (λ (τ : Slots). rebuilding (after_all k (rebuild_writes E (k []) σ s c)) τ (recounted n (rebuild_writes E (k []) σ s c)))
-    (eσ ∙ ap (λ m. put_slot σ c (Filling m)) (add-one s))
+    rw (ek, eσ, add-one s, en, eb) (ap (rebuilding (after_all k (rebuild_writes E (k []) σ s c)) (put_slot σ c (Filling (suc s)))) (by_any n (rebuild_writes E (k []) σ s c)))
 
 pub refills_none : (E : Setup) (c : ℕ) (x : Rebuilding) → x ≡ refills E c 0 x
 unfolding refills
@@ -59,42 +56,29 @@ refills_none E c x = refl
 
 pub refills_more : (E : Setup) (c i : ℕ) (x₀ x y : Rebuilding) → x ≡ refills E c i x₀ → y ≡ refill_next E c x → y ≡ refills E c (i + 1) x₀
 unfolding refills
-refills_more E c i x₀ x y inv e = e ∙ ap (refill_next E c) inv ∙ sym (ap (λ m. refills E c m x₀) (add-one i))
+refills_more E c i x₀ x y inv e = rw (add-one i, ← inv) e
 
 stopped : (o : Option Refusal) (x : Refusal) → Err x ≡ ok_unless {T = Unit {0}} o tt → o ≡ Some x
 stopped None x h = cc
 stopped (Some y) x h = cc
 
 module _ (E : Setup) (k : Conduct) (σ : Slots) (c n : ℕ) where
-  rebuild_goes : rebuild_refused E σ c n ≡ None → rebuild_end E k σ c n ≡ refills E c n (rebuild_start k σ)
-  unfolding rebuild_end
-  rebuild_goes e = ap (λ o. unless o (refills E c n (rebuild_start k σ)) (rebuild_start k σ)) e
-
-  rebuild_stops : (x : Refusal) → rebuild_refused E σ c n ≡ Some x → rebuild_end E k σ c n ≡ rebuild_start k σ
-  unfolding rebuild_end
-  rebuild_stops x e = ap (λ o. unless o (refills E c n (rebuild_start k σ)) (rebuild_start k σ)) e
-
   -- the end of an accepted rebuild
   pub rebuild_done : (i : ℕ) (k' : Conduct) (σ' : Slots) (m : RebuildCounts) → rebuild_refused E σ c n ≡ None → i ≡ n
       → rebuilding k' σ' m ≡ refills E c i (rebuild_start k σ) → RebuildDone (rebuild_end E k σ c n) k' σ'
-  rebuild_done i k' σ' m h q e =
-      let all = e ∙ ap (λ j. refills E c j (rebuild_start k σ)) q ∙ sym (rebuild_goes h) in
-      record { conduct = ap (λ (x : Rebuilding). x.conduct) all; slots = ap (λ (x : Rebuilding). x.slots) all }
+  unfolding rebuild_end
+  rebuild_done i k' σ' m h q e = rw (h, ← q, ← e) record { conduct = refl; slots = refl }
 
   pub rebuild_ok : (i : ℕ) (k' : Conduct) (σ' : Slots) (m : RebuildCounts) → rebuild_refused E σ c n ≡ None → i ≡ n
       → rebuilding k' σ' m ≡ refills E c i (rebuild_start k σ) → Ok m ≡ rebuild_answer E k σ c n
-  unfolding rebuild_answer
-  rebuild_ok i k' σ' m h q e =
-      let made : RebuildCounts → Result RebuildCounts Refusal = Ok in
-      ap (λ (x : Rebuilding). made x.counts) (e ∙ ap (λ j. refills E c j (rebuild_start k σ)) q ∙ sym (rebuild_goes h))
-      ∙ sym (ap (λ o. ok_unless o (rebuild_end E k σ c n).counts) h)
+  unfolding rebuild_answer rebuild_end
+  rebuild_ok i k' σ' m h q e = rw (h, ← q, ← e) refl
 
   -- a refused rebuild changes nothing
   pub rebuild_still : (x : Refusal) → Err x ≡ ok_unless {T = Unit {0}} (rebuild_refused E σ c n) tt → RebuildDone (rebuild_end E k σ c n) k σ
-  rebuild_still x h =
-      let all = sym (rebuild_stops x (stopped _ x h)) in
-      record { conduct = ap (λ (y : Rebuilding). y.conduct) all; slots = ap (λ (y : Rebuilding). y.slots) all }
+  unfolding rebuild_end
+  rebuild_still x h = rw (stopped _ x h) record { conduct = refl; slots = refl }
 
   pub rebuild_refused_lem : (x : Refusal) → Err x ≡ ok_unless {T = Unit {0}} (rebuild_refused E σ c n) tt → Err x ≡ rebuild_answer E k σ c n
   unfolding rebuild_answer
-  rebuild_refused_lem x h = sym (ap (λ o. ok_unless o (rebuild_end E k σ c n).counts) (stopped _ x h))
+  rebuild_refused_lem x h = rw (stopped _ x h) refl

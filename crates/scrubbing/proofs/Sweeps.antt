@@ -1,7 +1,6 @@
 -- One more stripe of a scrub, and its end. Assumes nothing.
-use Rattle.std.proofs.Common.{◌≡◌, ℕ, ◌+◌, ◌≤◌, cond, eqb, List, [], Ok, Result, sym, refl, ap, ◌∙◌, ap₂, add-one}
+use Rattle.std.proofs.Common.{◌≡◌, ℕ, ◌+◌, ◌≤◌, cond, eqb, List, [], Ok, sym, refl, ap, ◌∙◌, add-one}
 use Rattle.std.proofs.lemmas.Bool.{cond-true, le-leb, eq-eqb}
-use Rattle.block.specs.declared.refusal.Refusal.{Refusal}
 use Rattle.block.specs.Judging.{Setup}
 use Rattle.shelf.specs.Model.{Conduct, after_all}
 use Rattle.stripe.specs.declared.shapes.Finding.{Finding}
@@ -41,14 +40,7 @@ sweeps_more : (E : Setup) (σ : Slots) (i : ℕ) (x₀ : Scrubbing) (k k' : Cond
     → fs' ≡ sweep_findings E (k []) σ s → c' ≡ cursor_next E.S s → n' ≡ counted n w
     → scrubbing k' c' n' fs' ≡ sweeps E σ (i + 1) x₀
 unfolding sweeps sweep
-sweeps_more E σ i x₀ k k' c c' s n n' fs fs' w inv es ew ek ef ec en =
-    ap₂ (λ (a : Conduct) (m : ScrubCounts). scrubbing a c' m fs') ek (en ∙ ap (counted n) ew)
-    ∙ ap₂ (λ (a : ℕ) (gs : List Finding). scrubbing (after_all k (sweep_writes E (k []) σ s)) a (counted n (swept_of E (k []) σ s)) gs) ec ef
-    ∙ ap
-    (λ (z : ℕ).
-    scrubbing (after_all k (sweep_writes E (k []) σ z)) (cursor_next E.S z) (counted n (swept_of E (k []) σ z)) (sweep_findings E (k []) σ z))
-    es
-    ∙ ap (sweep E σ) inv ∙ sym (ap (λ m. sweeps E σ m x₀) (add-one i))
+sweeps_more E σ i x₀ k k' c c' s n n' fs fs' w inv es ew ek ef ec en = rw (add-one i, ← inv, ek, ef, ec, en, ew, es) refl
 
 -- one more stripe, which fills the findings if it is the last
 pub so_far_more : (E : Setup) (σ : Slots) (i n : ℕ) (x₀ : Scrubbing) (k k' : Conduct) (c c' s : ℕ) (m m' : ScrubCounts) (fs fs' : List Finding) (w : Swept)
@@ -67,20 +59,13 @@ pub so_far_all : (k : Conduct) (c : ℕ) (m : ScrubCounts) (fs : List Finding) (
 so_far_all k c m fs n i x e f = ap (scrubbing k c m) (f.filled e) ∙ f.same
 
 module _ (E : Setup) (k : Conduct) (σ : Slots) (c n : ℕ) (fs : List Finding) where
-  scrub_few : n ≤ 65536 → scrub_end E k σ c n fs ≡ sweeps E σ n (scrub_start k c fs)
-  unfolding scrub_end
-  scrub_few h = cond-true _ _ _ (le-leb n 65536 h)
-
   -- the end of an accepted scrub
   pub scrub_done : (i : ℕ) (k' : Conduct) (c' : ℕ) (m : ScrubCounts) (fs' : List Finding) → n ≤ 65536 → i ≡ n
       → scrubbing k' c' m fs' ≡ sweeps E σ i (scrub_start k c fs) → ScrubDone (scrub_end E k σ c n fs) k' c' fs'
-  scrub_done i k' c' m fs' h q e =
-      let all = e ∙ ap (λ j. sweeps E σ j (scrub_start k c fs)) q ∙ sym (scrub_few h) in
-      record { conduct = ap (λ (x : Scrubbing). x.conduct) all; cursor = ap (λ (x : Scrubbing). x.cursor) all; findings = ap (λ (x : Scrubbing). x.findings) all }
+  unfolding scrub_end
+  scrub_done i k' c' m fs' h q e = rw (le-leb n 65536 h, ← q, ← e) record { conduct = refl; cursor = refl; findings = refl }
 
   pub scrub_ok : (i : ℕ) (k' : Conduct) (c' : ℕ) (m : ScrubCounts) (fs' : List Finding) → n ≤ 65536 → i ≡ n
       → scrubbing k' c' m fs' ≡ sweeps E σ i (scrub_start k c fs) → Ok m ≡ scrub_answer E k σ c n fs
-  unfolding scrub_answer
-  scrub_ok i k' c' m fs' h q e =
-      let made : ScrubCounts → Result ScrubCounts Refusal = Ok in
-      ap (λ (x : Scrubbing). made x.counts) (e ∙ ap (λ j. sweeps E σ j (scrub_start k c fs)) q ∙ sym (scrub_few h)) ∙ sym (cond-true _ _ _ (le-leb n 65536 h))
+  unfolding scrub_answer scrub_end
+  scrub_ok i k' c' m fs' h q e = rw (le-leb n 65536 h, ← q, ← e) refl

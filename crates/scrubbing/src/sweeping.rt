@@ -12,7 +12,7 @@ use checksum::Checksum;
 use findings::findings_all;
 use patches::{apply_patch, patch_by};
 use runs::{ScrubCounts, Swept};
-use shelf::{ReadableShelf, WritableShelf};
+use shelf::WritableShelf;
 use stripe::{CardSet, Decision, Finding, Stripe, takes};
 
 // What a scrub does at stripe s, by what the bad blocks decide.

@@ -1,10 +1,10 @@
-use Rattle.std.proofs.Common.{◌≡◌, refl, cond, [], List, sym, ap, ◌∙◌, ap₂, arith}
+use Rattle.std.proofs.Common.{◌≡◌, refl, [], sym, ap, ◌∙◌, ap₂, arith}
 use Rattle.std.proofs.lemmas.Bool.{cond-true, cond-false}
 use Rattle.block.specs.Judging.{setup}
 use Rattle.shelf.specs.Model.{after_all}
 use Rattle.stripe.specs.Findings.{findings_all}
 use Rattle.stripe.specs.Judge.{decision}
-use Rattle.stripe.specs.View.{View, slots_in, seen_in, view_of, stripe_of}
+use Rattle.stripe.specs.View.{slots_in, view_of, stripe_of}
 use Rattle.stripe.proofs.OnShelf.{held_view}
 use Rattle.runs.specs.Gather.{patch_by, patch_of, patch_writes, patched_slot}
 use Rattle.runs.specs.Scrubs.{swept_by, swept_of, sweep_writes, sweep_findings}
