@@ -14,7 +14,7 @@ struct Pair {
     second: DataSpot,
 }
 
-fn pair() -> Result<Pair, Fail> {
+fn new_pair() -> Result<Pair, Fail> {
     let frame = Frame::new(3, 1, 9)?;
     Ok(Pair {
         first: frame.data_spot(0)?,

@@ -135,7 +135,10 @@ fn rebuild(rt: &HostRuntime, cabinet: &mut Cabinet, job: RebuildJob) -> anyhow::
                 )?;
             }
             if let Ok(counts) = second {
-                println!(rt; "rebuilt {} more, {} of them mended", counts.moved, counts.mended)?;
+                println!(rt;
+                    "rebuilt {} more, {} of them mended",
+                    counts.moved, counts.mended
+                )?;
             }
             println!(rt; "the new card is in: {ended}")?;
             Ok(())

@@ -36,7 +36,10 @@ pub fn print_findings(rt: &HostRuntime, findings: &[Finding; 8]) -> anyhow::Resu
     for finding in findings {
         if let Condition::Bad(cause) = finding.condition {
             let words = cause_in_words(cause);
-            print!(rt; "    card {}, block {} {words}", finding.slot, finding.block)?;
+            print!(rt;
+                "    card {}, block {} {words}",
+                finding.slot, finding.block
+            )?;
             if let Some(lead) = finding.lead {
                 print!(rt; ", lead {lead}")?;
             }

@@ -17,9 +17,7 @@ impl fmt::Display for StripeReport {
         write!(
             f,
             "stripe {} parity {} mask {} causes ",
-            self.stripe,
-            self.parity,
-            self.mask
+            self.stripe, self.parity, self.mask
         )?;
         let cards = self.cards as usize;
         for finding in self.findings.iter().take(cards) {
@@ -41,11 +39,7 @@ impl fmt::Display for CardTotals {
         write!(
             f,
             "readable {} blind {} broken {} foreign {} behind {}",
-            self.readable,
-            self.blind,
-            self.broken,
-            self.foreign,
-            self.behind
+            self.readable, self.blind, self.broken, self.foreign, self.behind
         )
     }
 }
@@ -55,9 +49,7 @@ impl fmt::Display for StripeTotals {
         write!(
             f,
             "clean {} one bad block {} lost {}",
-            self.clean,
-            self.single,
-            self.lost
+            self.clean, self.single, self.lost
         )
     }
 }

@@ -85,8 +85,9 @@ fn run(rt: &HostRuntime) -> anyhow::Result<()> {
         [] | [_] => demo::run(rt),
         [_, path, cards, stripes, tag, sum] => {
             let told = parse_told(cards.as_str(), stripes.as_str(), tag.as_str(), sum.as_str())?;
-            let bytes = fs::read(rt, path.as_str())
-                .map_err(|_| anyhow!("the image file cannot be read"))?;
+            let bytes = fs::read(rt, path.as_str()).map_err(|_| anyhow!(
+                "the image file cannot be read"
+            ))?;
             print_survey(rt, &told, bytes.as_slice())
         }
         _ => Err(anyhow!(USAGE)),

@@ -35,8 +35,9 @@ fn print_image<C: Checksum>(
     sum: &str,
 ) -> anyhow::Result<()> {
     let bytes = fs::read(rt, path)?;
-    let view = ImageView::open(cards, stripes, bytes.as_slice())
-        .map_err(|_| anyhow!("the image was refused"))?;
+    let view = ImageView::open(cards, stripes, bytes.as_slice()).map_err(|_| anyhow!(
+        "the image was refused"
+    ))?;
     print_stripes::<ImageView, C>(rt, &view, tag, sum)
 }
 
