@@ -1,7 +1,8 @@
 -- The words of a row, and the row that a block begins with. Assumes nothing.
-use Rattle.std.specs.Prelude.{◌≡◌, ℕ, ◌+◌, ◌*◌, ◌/◌, ◌%◌, ◌<◌, ◌≤◌, List, [], ◌∷◌, length, take, drop, slice_index, slice_index_or, refl}
+use Rattle.std.specs.Prelude.{◌≡◌, ℕ, zero, suc, ◌+◌, ◌*◌, ◌/◌, ◌%◌, ◌<◌, ◌≤◌, List, [], ◌∷◌, length, take, drop, slice_index, slice_index_or, refl}
 use Rattle.std.proofs.Common.{ap, ◌∙◌, arith}
-use Rattle.std.proofs.lemmas.List.{drop_all, drop_more, get_or-take, length-take-le}
+use Rattle.std.proofs.lemmas.List.{drop_all, drop_more, get_or-drop, get_or-take, length-take-le}
+use Rattle.std.specs.Simd.{first_chunks}
 use Rattle.std.proofs.lemmas.Simd.{Each1-from_get_or}
 use Rattle.checksum.specs.Rows.{Bytes, Row, halves, words, split, word_at}
 
@@ -36,6 +37,25 @@ front_row bs l h =
       long = long;
       bytes = Each1-from_get_or (λ x. x < 256) (take 124 bs) 0 (λ k b. let c : k < 124 = omega arith in rw get_or-take (h k));
     }
+
+-- The element of a chunk of four.
+chunk_at : (n k : ℕ) (bs : List ℕ) (i : ℕ) → k < n → i < 4 → slice_index_or (slice_index_or (first_chunks 4 n bs) k []) i 0 ≡ slice_index_or bs (4 * k + i) 0
+chunk_at zero k bs i h l = absurd (omega arith)
+chunk_at (suc n) zero bs i h l = get_or-take 4 bs i 0 l ∙ ap (λ j. slice_index_or bs j 0) (omega arith)
+chunk_at (suc n) (suc k) bs i h l =
+    chunk_at n k (drop 4 bs) i (omega arith) l ∙ get_or-drop 4 bs (4 * k + i) 0 ∙ ap (λ j. slice_index_or bs j 0) (omega arith)
+
+-- A chunk of a block's first 124 bytes is a word of the block.
+pub word_of_chunk : (bs : List ℕ) (cs : List (List ℕ)) (n k : ℕ) → cs ≡ first_chunks 4 n (take 124 bs) → k < n → k < 31
+    → word_at (slice_index_or cs k []) 0 ≡ word_at bs (4 * k)
+word_of_chunk bs cs n k e h l =
+    let at : (i : ℕ) → i < 4 → slice_index_or (slice_index_or cs k []) i 0 ≡ slice_index_or bs (4 * k + i) 0 =
+    λ i m. ap (λ c. slice_index_or (slice_index_or c k []) i 0) e ∙ chunk_at n k (take 124 bs) i h m ∙ get_or-take 124 bs (4 * k + i) 0 (omega arith) in
+    let a : slice_index_or (slice_index_or cs k []) 0 0 ≡ slice_index_or bs (4 * k) 0 = at 0 (omega arith) ∙ ap (λ j. slice_index_or bs j 0) (omega arith) in
+    let b : slice_index_or (slice_index_or cs k []) 1 0 ≡ slice_index_or bs (4 * k + 1) 0 = at 1 (omega arith) in
+    let c : slice_index_or (slice_index_or cs k []) 2 0 ≡ slice_index_or bs (4 * k + 2) 0 = at 2 (omega arith) in
+    let d : slice_index_or (slice_index_or cs k []) 3 0 ≡ slice_index_or bs (4 * k + 3) 0 = at 3 (omega arith) in
+    cc
 
 -- The words of a block's first 124 bytes from the i-th on are the i-th and those from the next on.
 pub next_of_row : (bs : List ℕ) (i : ℕ) → length bs ≡ 128 → i < 31 → words (drop (4 * i) (take 124 bs)) ≡ word_at bs (4 * i) ∷ words (drop (4 * (i + 1)) (take 124 bs))

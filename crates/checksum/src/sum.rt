@@ -37,8 +37,8 @@ pub trait Checksum {
         ensures { result ≡ meaning (take 124 block.now) }
     {
         let mut state = Self::start();
-        for i in 0..31 {
-            state = Self::feed(state, be32(block, 4 * i));
+        for word in block[..124].as_chunks::<4>().0 {
+            state = Self::feed(state, u32::from_be_bytes(*word));
         }
         Self::finish(state)
     }

@@ -39,8 +39,8 @@ fn greatest_lead(stripe: &Stripe, width: u32) -> Option<i64>
     ensures { result ≡ greatest_lead (seen_in stripe.now) width }
 {
     let mut greatest = None;
-    for j in 0..width {
-        greatest = greater_of(lead_at(stripe.data_at(j), &stripe.parity, j), greatest);
+    for (j, block) in stripe.data[..width as usize].iter().enumerate() {
+        greatest = greater_of(lead_at(block, &stripe.parity, j as u32), greatest);
     }
     greatest
 }

@@ -32,11 +32,11 @@ pub fn data_row(stripe: &Stripe, width: u32, j: u32, payload: &[u8; 80]) -> [u8;
     ensures { result ≡ data_row stripe.now.«data» width j payload.now }
 {
     let mut row = [0u8; 80];
-    for k in 0..width {
-        if k == j {
+    for (k, block) in stripe.data[..width as usize].iter().enumerate() {
+        if k == j as usize {
             xor_bytes(&mut row, payload);
         } else {
-            xor_block(&mut row, stripe.data_at(k));
+            xor_block(&mut row, block);
         }
     }
     row
@@ -69,11 +69,11 @@ pub fn data_owner(stripe: &Stripe, width: u32, j: u32, owner: u32) -> u32
     ensures { result ≡ data_owner stripe.now.«data» width j owner }
 {
     let mut all = 0;
-    for k in 0..width {
-        all ^= if k == j {
+    for (k, block) in stripe.data[..width as usize].iter().enumerate() {
+        all ^= if k == j as usize {
             owner
         } else {
-            owner_in(stripe.data_at(k))
+            owner_in(block)
         };
     }
     all

@@ -19,8 +19,8 @@ fn all_in_below(states: &[SlotState; 8], cards: u32) -> bool
     ensures { result ≡ all_in_below cards (slots_in states.now) }
 {
     let mut all = true;
-    for c in 0..cards {
-        all = is_in(states[c as usize]) && all;
+    for state in &states[..cards as usize] {
+        all = is_in(*state) && all;
     }
     all
 }

@@ -1,8 +1,9 @@
 -- A row that a loop fills from its start, and tables of equal parts. Assumes nothing.
-use Rattle.std.proofs.Common.{◌≡◌, ℕ, zero, suc, ◌+◌, ◌<◌, ◌≤◌, List, ◌∷◌, map, length, get_or, set, sym, refl, ap, ◌∙◌, ap₂, ⊎_elim, arith, length-set, get_or-set_other, get_or-set_same}
+use Rattle.std.proofs.Common.{◌≡◌, ℕ, zero, suc, ◌+◌, ◌<◌, ◌≤◌, List, ◌∷◌, map, length, get_or, set, take, sym, refl, ap, ◌∙◌, ap₂, ⊎_elim, arith, length-set, get_or-set_other, get_or-set_same}
 use denote.Param.Members.{Mut, Called}
 use Rattle.std.specs.Array.{IsFromFnResult, IsFromFnResultFrom}
 use Rattle.std.specs.List.{range_with_len}
+use Rattle.std.proofs.lemmas.List.{get_or-take, get_or_default, length-take}
 use Rattle.std.proofs.lemmas.List.FromFn.{fill_by_all}
 use Rattle.std.proofs.lemmas.Bool.{cases_eq}
 use Rattle.block.specs.Layout.{table}
@@ -47,3 +48,8 @@ module _ {F B : Type 0} (g : Mut F (ℕ × Unit {0}) B) (h : ℕ → B) (f : F) 
 
   pub from_fn_same : (n : ℕ) → IsFromFnResult g f ys n → ys ≡ table n h
   from_fn_same n r = fill_by_all h ys n (h 0) r.long (λ k l. made_from 0 n k f (h 0) refl r.each (omega arith) (omega arith))
+
+-- an element of the first n, whatever stands for one that is not there
+pub in_front : {A : Type 0} (xs : List A) (n k : ℕ) (d e : A) → k < length (take n xs) → get_or (take n xs) k d ≡ get_or xs k e
+in_front xs n k d e h =
+    get_or-take n xs k d (omega (arith, length-take n xs)) ∙ get_or_default xs k d e (omega (arith, length-take n xs))

@@ -3,5 +3,5 @@ use Rattle.stripe.specs.View.{slots_in}
 use Rattle.runs.specs.Slots.{all_in_below}
 use Rattle.slots.proofs.slots.all_in_below.Given as goal
 
-abbrev pub invariant-loop-c : goal.invariant-loop-c
-invariant-loop-c l = l.all ≡ all_in_below l.c (slots_in l.states)
+abbrev pub invariant-loop-state : goal.invariant-loop-state
+invariant-loop-state l = l.all ≡ all_in_below l.state-index (slots_in l.states)
