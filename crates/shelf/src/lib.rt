@@ -24,9 +24,6 @@ pub trait ReadableShelf {
     // What each place holds.
     ghost holds: { Self → Content };
 
-    // A place that is not blind holds 128 bytes.
-    ghost sized: { (s : Self) → AllSized (cards s) (blocks s) (holds s) };
-
     fn card_count(&self) -> u32
         ensures value { result ≡ cards self.now }
         ensures low { 3 ≤ result }
@@ -41,6 +38,9 @@ pub trait ReadableShelf {
     fn read(&self, slot: u32, block: u32, buf: &mut [u8]) -> Result<Sight, Refusal>
         ensures answer { result ≡ read_answer (cards self.now) (blocks self.now) (holds self.now) slot block (length buf.old) }
         ensures buffer { buf.new ≡ read_buffer (cards self.now) (blocks self.now) (holds self.now) slot block buf.old };
+
+    // A place that is not blind holds 128 bytes.
+    ghost sized: { (s : Self) → AllSized (cards s) (blocks s) (holds s) };
 }
 
 // A readable shelf that also writes.
