@@ -3,25 +3,33 @@ use Rattle.std.specs.Prelude.{◌≡◌, ℕ, ◌<◌, Bool, true, false, cond, 
 use Rattle.std.proofs.Math.Path.{refl, sym, ap}
 use Rattle.std.proofs.Common.{◌∙◌, append_assoc}
 use Rattle.std.proofs.lemmas.List.{append-nil}
-use Rattle.std.proofs.lemmas.Bool.{cond-false}
+use Rattle.std.proofs.lemmas.Bool.{cond-true, cond-false}
 use Rattle.block.specs.Shapes.{Cell}
 use Rattle.shelf.specs.Model.{Content, Conduct, Write, OwnCard, write_of, after_all, inside, writes_taken}
 use Rattle.faults.specs.declared.rows.Plan.{Plan}
 use Rattle.faults.specs.declared.rows.Plan.TheVariants.{Lose, Tear, Spoil, Stray}
 use Rattle.faults.specs.declared.rows.Row.{Row}
 use Rattle.faults.specs.declared.table.Found.{Found}
-use Rattle.faults.specs.Rows.{marked, plan_for}
+use Rattle.faults.specs.Rows.{marked, plan_for, rows_by}
 use Rattle.faults.specs.Faults.{screened, torn_writes, planned_writes, writes_by, accepted, passed, rows_after, fault_conduct}
 use Rattle.faults.specs.Marks.{marked_after}
 
 module _ (n s : ℕ) (rows : List Row) (w : Write) where
-  refused_passed : (c : Content) → accepted n s w ≡ false → [] ≡ passed n s c rows w
+  pub refused_passed : (c : Content) → accepted n s w ≡ false → [] ≡ passed n s c rows w
   unfolding passed
   refused_passed c h = sym (cond-false _ _ _ h)
 
-  refused_rows : accepted n s w ≡ false → rows ≡ rows_after n s rows w
+  pub refused_rows : accepted n s w ≡ false → rows ≡ rows_after n s rows w
   unfolding rows_after
   refused_rows h = sym (cond-false _ _ _ h)
+
+  pub accepted_passed : (c : Content) → accepted n s w ≡ true → writes_by n s c rows w (plan_for w.slot w.block rows) ≡ passed n s c rows w
+  unfolding passed
+  accepted_passed c h = sym (cond-true _ _ _ h)
+
+  pub accepted_rows : accepted n s w ≡ true → rows_by rows w.slot w.block (plan_for w.slot w.block rows) ≡ rows_after n s rows w
+  unfolding rows_after
+  accepted_rows h = sym (cond-true _ _ _ h)
 
 -- the layer after one write, refused or not
 module _ (n s : ℕ) (k : Conduct) (rows : List Row) (i j : ℕ) (bs : List ℕ) where

@@ -50,6 +50,15 @@ plan_from n i j (r ∷ rs) = found_at n (plan_at i j r) (plan_from (n + 1) i j r
 abbrev pub plan_for : ℕ → ℕ → List Row → Option Found
 plan_for i j rows = plan_from 0 i j rows
 
+-- the index of the first mark on the place, where the first row has index n
+abbrev pub mark_from : ℕ → ℕ → ℕ → List Row → Option ℕ
+mark_from n i j [] = None
+mark_from n i j (r ∷ rs) = cond (is_mark i j r) (Some n) (mark_from (n + 1) i j rs)
+
+-- the index of the first mark on the place
+abbrev pub mark_on : ℕ → ℕ → List Row → Option ℕ
+mark_on i j rows = mark_from 0 i j rows
+
 -- there is a mark on the place
 abbrev pub marked : ℕ → ℕ → List Row → Bool
 marked i j [] = false

@@ -3,3 +3,4 @@ pub mod Layout
 pub mod Making
 pub mod Sized
 pub mod Puts
+pub mod Seen

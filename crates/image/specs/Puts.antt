@@ -12,6 +12,7 @@ use Rattle.std.proofs.lemmas.Bool.{and_parts, and_from, ltb-true, lt-ltb, eqb-tr
 use Rattle.std.proofs.lemmas.Nat.{div-mul-add, mod-mul-add}
 use Rattle.shelf.specs.Model.{Write, OwnCard, Faithful}
 use Rattle.image.specs.Sized.{place_lt, content_in}
+use Rattle.image.specs.Seen.{cell_present}
 use Rattle.image.specs.Layout.{accepts, cell_at, content_of, put_at, stored, replayed, image_conduct}
 
 -- a place has one number
@@ -24,11 +25,6 @@ below_take n xs k h = let l : k < min n (length xs) = subst (λ x. k < x) (lengt
 
 apart : (q p k : ℕ) → q ≢ p → k < 128 → (q * 128 + k < p * 128) ⊎ (p * 128 + 128 ≤ q * 128 + k)
 apart q p k ne h = ⊎_elim (λ e. absurd (ne e)) (⊎_elim (λ l. inl (omega arith)) (λ l. inr (omega arith))) (cases_order q p)
-
--- what a place with its flag 0 holds
-cell_present : (m : ℕ) (xs : List ℕ) (p : ℕ) → slice_index_or xs (m * 128 + p) 1 ≡ 0 → cell_at m xs p ≡ Some (take 128 (drop (p * 128) xs))
-unfolding cell_at
-cell_present m xs p e = cond-true _ _ _ (eq-eqb _ 0 e)
 
 module _ (m : ℕ) (xs : List ℕ) (p : ℕ) (bs : List ℕ) (len : length xs ≡ m * 129) (lt : p < m) (b : length bs ≡ 128) where
   front : length (take (p * 128) xs) ≡ p * 128
