@@ -2,7 +2,7 @@
 //!
 //! The modules up to `survey` are the array itself. `call`, `replay` and `bench_work` drive it as the other
 //! implementation is driven through its C boundary, and `boundary` declares that boundary. The modules from `rng` on
-//! make random scripts for the comparison of the two.
+//! make random scripts for the comparison of the two. `start` is what the programs share.
 
 #![deny(unsafe_code)]
 
@@ -23,6 +23,8 @@ pub mod coverage;
 pub mod generate;
 pub mod images;
 pub mod rng;
+
+pub mod start;
 
 #[cfg(feature = "boundary")]
 #[allow(unsafe_code)]

@@ -1,67 +1,65 @@
 // The answers: words and bytes, one after the other.
+ghost use Rattle.std.specs.Prelude.{◌+◌, ◌≤◌, ◌^◌, ◌<◌, length};
+
 use block::Refusal;
+use std::mem;
 use stripe::{Cause, Condition, Finding, Layer};
 
-// The bytes written so far. Once something does not fit, nothing more is written.
+// The room that is left, and the number of bytes written. Once something does not fit, no room is left.
 #[derive(Drop)]
 pub(crate) struct Answers<'a> {
-    out: &'a mut [u8],
-    len: usize,
-    full: bool,
+    rest: &'a mut [u8],
+    written: usize,
+    ghost counted: { written + length rest.now < 2 ^ 64 },
+}
+
+// 0, or the refusal's number.
+pub(crate) fn refusal_word(refusal: Option<Refusal>) -> u32 {
+    refusal.map_or(0, |why| u32::from(why.number()))
 }
 
 fn condition_word(condition: Condition) -> u32 {
     match condition {
         Condition::NotLooked => 0,
         Condition::Readable => 1,
-        Condition::Bad(cause) => match cause {
-            Cause::Blind => 2,
-            Cause::Broken => 3,
-            Cause::Foreign => 4,
-            Cause::Behind => 5,
-        },
+        Condition::Bad(Cause::Blind) => 2,
+        Condition::Bad(Cause::Broken) => 3,
+        Condition::Bad(Cause::Foreign) => 4,
+        Condition::Bad(Cause::Behind) => 5,
     }
 }
 
 fn layer_word(layer: Option<Layer>) -> u32 {
     match layer {
         None => 0,
-        Some(shown) => match shown {
-            Layer::Card => 1,
-            Layer::Checksum => 2,
-            Layer::Identity => 3,
-            Layer::Version => 4,
-        },
+        Some(Layer::Card) => 1,
+        Some(Layer::Checksum) => 2,
+        Some(Layer::Identity) => 3,
+        Some(Layer::Version) => 4,
     }
 }
 
 impl<'a> Answers<'a> {
     pub(crate) fn of(out: &'a mut [u8]) -> Answers<'a> {
         Answers {
-            out,
-            len: 0,
-            full: false,
+            rest: out,
+            written: 0,
         }
     }
 
     // The number of bytes written.
     pub(crate) fn written(&self) -> usize {
-        self.len
+        self.written
     }
 
     // Bytes, if they fit.
     pub(crate) fn bytes(&mut self, bytes: &[u8]) {
-        let at = self.len;
-        let Some(end) = at.checked_add(bytes.len()) else {
-            self.full = true;
-            return;
-        };
-        if self.full || end > self.out.len() {
-            self.full = true;
-            return;
+        let count = bytes.len();
+        if let Some((place, rest)) = mem::take(&mut self.rest).split_at_mut_checked(count) {
+            place.copy_from_slice(bytes);
+            self.written += count;
+            self.rest = rest;
         }
-        self.out[at..end].copy_from_slice(bytes);
-        self.len = end;
     }
 
     // A word, most significant byte first.
@@ -70,34 +68,36 @@ impl<'a> Answers<'a> {
     }
 
     pub(crate) fn flag(&mut self, flag: bool) {
-        self.word(if flag { 1 } else { 0 });
+        self.word(u32::from(flag));
     }
 
-    // The first word of an answer: 0, or the refusal's number.
+    // The first word of an answer.
     pub(crate) fn outcome(&mut self, refusal: Option<Refusal>) {
-        match refusal {
-            None => self.word(0),
-            Some(why) => self.word(u32::from(why.number())),
+        self.word(refusal_word(refusal));
+    }
+
+    // The first word of an answer, and the words that follow where the call is accepted.
+    pub(crate) fn answer<const N: usize>(&mut self, answer: Result<[u32; N], Refusal>) {
+        match &answer {
+            Ok(words) => {
+                self.outcome(None);
+                for word in words {
+                    self.word(*word);
+                }
+            }
+            Err(refusal) => self.outcome(Some(*refusal)),
         }
     }
 
+    // Whether there is a lead, and its upper and lower word.
     fn lead(&mut self, lead: Option<i64>) {
-        match lead {
-            None => {
-                self.flag(false);
-                self.word(0);
-                self.word(0);
-            }
-            Some(number) => {
-                self.flag(true);
-                let bytes = number.to_be_bytes();
-                self.bytes(&bytes[0..4]);
-                self.bytes(&bytes[4..8]);
-            }
-        }
+        self.flag(lead.is_some());
+        let number = lead.unwrap_or(0).to_be_bytes();
+        self.bytes(&number[..4]);
+        self.bytes(&number[4..]);
     }
 
-    fn finding(&mut self, finding: Finding) {
+    fn finding(&mut self, finding: &Finding) {
         self.word(finding.slot);
         self.word(finding.block);
         self.word(condition_word(finding.condition));
@@ -108,8 +108,8 @@ impl<'a> Answers<'a> {
 
     // The eight rows.
     pub(crate) fn findings(&mut self, findings: &[Finding; 8]) {
-        for i in 0..8usize {
-            self.finding(findings[i]);
+        for finding in findings {
+            self.finding(finding);
         }
     }
 }

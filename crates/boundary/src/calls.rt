@@ -1,37 +1,71 @@
 // The calls of a script, read one after the other.
+ghost use Rattle.std.specs.Prelude.{◌<◌, ◌≤◌, length, OnSome};
+ghost use Rattle.std.specs.Iterator.{at_most};
+
 use faults::Plan;
 use runs::Way;
 
 // No buffer and no byte string of a call is longer than this.
 const LONGEST: u32 = 1024;
 
-// The bytes of a script, and how far they were read.
+// The bytes of a script that are not yet read. It gives the calls, up to the first that is not all there.
 #[derive(Drop)]
 pub(crate) struct Calls<'a> {
-    bytes: &'a [u8],
-    at: usize,
+    rest: &'a [u8],
 }
 
-// One call with its arguments; lengths are those of the buffers to hand in.
+// The length of a buffer to hand in.
+#[derive(Clone, Copy)]
+pub(crate) struct Length {
+    bytes: usize,
+    ghost short: { bytes ≤ 1024 },
+}
+
+impl Length {
+    // So many of the bytes.
+    pub(crate) fn of(self, bytes: &mut [u8; 1024]) -> &mut [u8] {
+        &mut bytes[..self.bytes]
+    }
+}
+
+// One call with its arguments.
 #[derive(Drop)]
 pub(crate) enum Call<'a> {
+    Array(ArrayCall<'a>),
+    Job(JobCall),
+    Layer(LayerCall<'a>),
+}
+
+// A call on the array with no job.
+#[derive(Clone, Copy)]
+pub(crate) enum ArrayCall<'a> {
     Read(ReadWords),
     Write(WriteWords<'a>),
     Scrub(u32),
     Look(LookWords),
     Pull(u32),
-    Fit(u32),
-    Rebuild(u32),
-    Finish,
-    GiveUp,
     Lay(u32, u32, Plan),
     Blind(u32, u32),
     Flip(u32, u32, u32, u32),
     Tally,
     SlotState(u32),
+}
+
+// A call that begins or ends the job in hand, or works on it.
+#[derive(Clone, Copy)]
+pub(crate) enum JobCall {
+    Fit(u32),
+    Rebuild(u32),
+    Finish,
+    GiveUp,
+}
+
+// A call for which the array is closed, and opened again afterwards.
+#[derive(Clone, Copy)]
+pub(crate) enum LayerCall<'a> {
     Reopen,
-    ShelfRead(u32, u32, usize),
-    ShelfWrite(u32, u32, &'a [u8]),
+    Read(u32, u32, Length),
+    Write(u32, u32, &'a [u8]),
 }
 
 #[derive(Clone, Copy)]
@@ -39,8 +73,8 @@ pub(crate) struct ReadWords {
     pub(crate) address: u32,
     pub(crate) owner: u32,
     pub(crate) mending: bool,
-    pub(crate) found: usize,
-    pub(crate) rebuilt: usize,
+    pub(crate) found: Length,
+    pub(crate) rebuilt: Length,
 }
 
 #[derive(Clone, Copy)]
@@ -57,63 +91,72 @@ pub(crate) struct LookWords {
     pub(crate) count: u32,
     pub(crate) owner: u32,
     pub(crate) mending: bool,
-    pub(crate) length: usize,
-}
-
-fn plan_of(code: u32, number: u32) -> Plan {
-    match code {
-        0 => Plan::Lose,
-        1 => Plan::Tear(number),
-        2 => Plan::Spoil,
-        _ => Plan::Stray(number),
-    }
+    pub(crate) length: Length,
 }
 
 impl<'a> Calls<'a> {
     pub(crate) fn of(bytes: &'a [u8]) -> Calls<'a> {
-        Calls { bytes, at: 0 }
-    }
-
-    // The number of bytes, which is at least the number of calls.
-    pub(crate) fn length_left(&self) -> usize {
-        self.bytes.len()
-    }
-
-    // The next bytes, if there are so many.
-    fn string(&mut self, count: usize) -> Option<&'a [u8]> {
-        let all = self.bytes;
-        let at = self.at;
-        let end = at.checked_add(count)?;
-        if end > all.len() {
-            return None;
-        }
-        self.at = end;
-        Some(&all[at..end])
+        Calls { rest: bytes }
     }
 
     // The next word, most significant byte first.
-    fn word(&mut self) -> Option<u32> {
-        match self.string(4)? {
-            [a, b, c, d] => Some(u32::from_be_bytes([*a, *b, *c, *d])),
-            _ => None,
-        }
+    fn word(&mut self) -> Option<u32>
+        ensures left { length self.new.rest.now ≤ length self.old.rest.now }
+        ensures some { OnSome result (length self.new.rest.now < length self.old.rest.now) }
+    {
+        let (word, rest) = self.rest.split_first_chunk::<4>()?;
+        self.rest = rest;
+        Some(u32::from_be_bytes(*word))
     }
 
-    fn flag(&mut self) -> Option<bool> {
+    fn flag(&mut self) -> Option<bool>
+        ensures { length self.new.rest.now ≤ length self.old.rest.now }
+    {
         Some(self.word()? != 0)
     }
 
     // A length, at most the longest.
-    fn length(&mut self) -> Option<usize> {
-        Some(self.word()?.min(LONGEST) as usize)
+    fn length(&mut self) -> Option<Length>
+        ensures { length self.new.rest.now ≤ length self.old.rest.now }
+    {
+        Some(Length {
+            bytes: self.word()?.min(LONGEST) as usize,
+        })
     }
 
-    fn counted(&mut self) -> Option<&'a [u8]> {
+    // The next bytes after their number, if there are so many.
+    fn counted(&mut self) -> Option<&'a [u8]>
+        ensures { length self.new.rest.now ≤ length self.old.rest.now }
+    {
         let length = self.length()?;
-        self.string(length)
+        self.rest.split_off(..length.bytes)
     }
 
-    fn read_words(&mut self) -> Option<ReadWords> {
+    fn way(&mut self) -> Option<Way>
+        ensures { length self.new.rest.now ≤ length self.old.rest.now }
+    {
+        Some(match self.word()? {
+            0 => Way::Additive,
+            _ => Way::Subtractive,
+        })
+    }
+
+    fn plan(&mut self) -> Option<Plan>
+        ensures { length self.new.rest.now ≤ length self.old.rest.now }
+    {
+        let kind = self.word()?;
+        let number = self.word()?;
+        Some(match kind {
+            0 => Plan::Lose,
+            1 => Plan::Tear(number),
+            2 => Plan::Spoil,
+            _ => Plan::Stray(number),
+        })
+    }
+
+    fn read_words(&mut self) -> Option<ReadWords>
+        ensures { length self.new.rest.now ≤ length self.old.rest.now }
+    {
         Some(ReadWords {
             address: self.word()?,
             owner: self.word()?,
@@ -123,15 +166,9 @@ impl<'a> Calls<'a> {
         })
     }
 
-    fn way(&mut self) -> Option<Way> {
-        if self.word()? == 0 {
-            Some(Way::Additive)
-        } else {
-            Some(Way::Subtractive)
-        }
-    }
-
-    fn write_words(&mut self) -> Option<WriteWords<'a>> {
+    fn write_words(&mut self) -> Option<WriteWords<'a>>
+        ensures { length self.new.rest.now ≤ length self.old.rest.now }
+    {
         Some(WriteWords {
             address: self.word()?,
             owner: self.word()?,
@@ -140,7 +177,9 @@ impl<'a> Calls<'a> {
         })
     }
 
-    fn look_words(&mut self) -> Option<LookWords> {
+    fn look_words(&mut self) -> Option<LookWords>
+        ensures { length self.new.rest.now ≤ length self.old.rest.now }
+    {
         Some(LookWords {
             first: self.word()?,
             count: self.word()?,
@@ -150,52 +189,46 @@ impl<'a> Calls<'a> {
         })
     }
 
-    // A call on the array itself.
-    fn array_call(&mut self, code: u32) -> Option<Call<'a>> {
-        match code {
-            1 => Some(Call::Read(self.read_words()?)),
-            2 => Some(Call::Write(self.write_words()?)),
-            3 => Some(Call::Scrub(self.word()?)),
-            4 => Some(Call::Look(self.look_words()?)),
-            5 => Some(Call::Pull(self.word()?)),
-            6 => Some(Call::Fit(self.word()?)),
-            7 => Some(Call::Rebuild(self.word()?)),
-            8 => Some(Call::Finish),
-            9 => Some(Call::GiveUp),
-            _ => None,
-        }
+    // The call of a code, if there is one.
+    fn call(&mut self, code: u32) -> Option<Call<'a>>
+        ensures { length self.new.rest.now ≤ length self.old.rest.now }
+    {
+        Some(match code {
+            1 => Call::Array(ArrayCall::Read(self.read_words()?)),
+            2 => Call::Array(ArrayCall::Write(self.write_words()?)),
+            3 => Call::Array(ArrayCall::Scrub(self.word()?)),
+            4 => Call::Array(ArrayCall::Look(self.look_words()?)),
+            5 => Call::Array(ArrayCall::Pull(self.word()?)),
+            6 => Call::Job(JobCall::Fit(self.word()?)),
+            7 => Call::Job(JobCall::Rebuild(self.word()?)),
+            8 => Call::Job(JobCall::Finish),
+            9 => Call::Job(JobCall::GiveUp),
+            10 => Call::Array(ArrayCall::Lay(self.word()?, self.word()?, self.plan()?)),
+            11 => Call::Array(ArrayCall::Blind(self.word()?, self.word()?)),
+            12 => Call::Array(ArrayCall::Flip(
+                self.word()?,
+                self.word()?,
+                self.word()?,
+                self.word()?,
+            )),
+            13 => Call::Array(ArrayCall::Tally),
+            14 => Call::Array(ArrayCall::SlotState(self.word()?)),
+            15 => Call::Layer(LayerCall::Reopen),
+            16 => Call::Layer(LayerCall::Read(self.word()?, self.word()?, self.length()?)),
+            17 => Call::Layer(LayerCall::Write(self.word()?, self.word()?, self.counted()?)),
+            _ => return None,
+        })
     }
+}
 
-    // A call on the fault layer, or one that asks.
-    fn other_call(&mut self, code: u32) -> Option<Call<'a>> {
-        match code {
-            10 => self.lay_call(),
-            11 => Some(Call::Blind(self.word()?, self.word()?)),
-            12 => Some(Call::Flip(self.word()?, self.word()?, self.word()?, self.word()?)),
-            13 => Some(Call::Tally),
-            14 => Some(Call::SlotState(self.word()?)),
-            15 => Some(Call::Reopen),
-            16 => Some(Call::ShelfRead(self.word()?, self.word()?, self.length()?)),
-            17 => Some(Call::ShelfWrite(self.word()?, self.word()?, self.counted()?)),
-            _ => None,
-        }
-    }
+impl<'a> Iterator for Calls<'a> {
+    type Item = Call<'a>;
 
-    fn lay_call(&mut self) -> Option<Call<'a>> {
-        let slot = self.word()?;
-        let block = self.word()?;
-        let code = self.word()?;
-        let number = self.word()?;
-        Some(Call::Lay(slot, block, plan_of(code, number)))
-    }
+    ghost remaining = { λ calls. at_most (length calls.rest.now) };
 
     // The next call, if it is all there.
-    pub(crate) fn next_call(&mut self) -> Option<Call<'a>> {
+    fn next(&mut self) -> Option<Call<'a>> {
         let code = self.word()?;
-        if code < 10 {
-            self.array_call(code)
-        } else {
-            self.other_call(code)
-        }
+        self.call(code)
     }
 }

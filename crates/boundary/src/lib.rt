@@ -7,14 +7,30 @@ ghost use Rattle.std.specs.Prelude.{◌≤◌, length};
 use answers::Answers;
 use calls::Calls;
 use checksum::{Fletcher, Turning};
-use player::{Start, replay};
+use player::{Begin, Origin, Start, replay};
 use std::alloc::Global;
-use work::{Work, bench};
+use work::{Kind, Work, bench};
 
 mod answers;
 mod calls;
 mod player;
 mod work;
+
+// A checksum of the two that there are.
+enum Sum {
+    Fletcher,
+    Turning,
+}
+
+// The checksum that a number names.
+impl From<u32> for Sum {
+    fn from(number: u32) -> Sum {
+        match number {
+            1 => Sum::Fletcher,
+            _ => Sum::Turning,
+        }
+    }
+}
 
 // Plays calls on an array over a fault layer over an image; answers the number of bytes of the answers.
 #[unsafe(no_mangle)]
@@ -36,16 +52,21 @@ pub extern "C" fn cards_replay(
         cards,
         blocks,
         tag,
-        zero: made != 0,
-        format: begun != 0,
+        image: match made {
+            0 => Origin::Bytes(image),
+            _ => Origin::Zero,
+        },
+        begin: match begun {
+            0 => Begin::Open,
+            _ => Begin::Format,
+        },
     };
     let room = answers.len();
-    let reader = Calls::of(calls);
+    let calls = Calls::of(calls);
     let mut out = Answers::of(answers);
-    if sum == 1 {
-        replay::<Fletcher>(heap, start, image, reader, &mut out);
-    } else {
-        replay::<Turning>(heap, start, image, reader, &mut out);
+    match Sum::from(sum) {
+        Sum::Fletcher => replay::<Fletcher>(heap, start, calls, &mut out),
+        Sum::Turning => replay::<Turning>(heap, start, calls, &mut out),
     }
     out.written().min(room)
 }
@@ -66,12 +87,11 @@ pub extern "C" fn cards_bench(
         cards,
         blocks,
         tag,
-        what,
+        kind: Kind::from(what),
         count,
     };
-    if sum == 1 {
-        bench::<Fletcher>(heap, work, image)
-    } else {
-        bench::<Turning>(heap, work, image)
+    match Sum::from(sum) {
+        Sum::Fletcher => bench::<Fletcher>(heap, work, image),
+        Sum::Turning => bench::<Turning>(heap, work, image),
     }
 }

@@ -1,17 +1,20 @@
 // Plays the calls of a script on an array over a fault layer over an image.
 ghost use Rattle.std.specs.Prelude.{◌≤◌, OnOk};
 
-use crate::answers::Answers;
-use crate::calls::{Call, Calls, LookWords, ReadWords, WriteWords};
-use array::{Array, RebuildJob, RefusedJob, RefusedShelf, show};
-use block::Refusal;
+use crate::answers::{Answers, refusal_word};
+use crate::calls::{
+    ArrayCall, Call, Calls, JobCall, LayerCall, Length, LookWords, ReadWords, WriteWords,
+};
+use array::{Array, RebuildJob, show};
+use block::HandedBack;
 use checksum::Checksum;
 use faults::FaultLayer;
-use image::{Image, MakeError, RefusedImage};
+use image::{Image, MakeError};
 use runs::{Source, Switch};
 use shelf::{ReadableShelf, Sight, WritableShelf};
 use std::alloc::Global;
-use stripe::{Condition, Finding, SlotState, survey};
+use std::array::from_fn;
+use stripe::{Finding, SlotState, survey};
 
 // What stands for want of memory.
 const NO_MEMORY: u32 = 255;
@@ -19,14 +22,28 @@ const NO_MEMORY: u32 = 255;
 // What stands for a job that is not in hand.
 const NO_JOB: u32 = 4294967295;
 
+// What the image of a script is made of.
+#[derive(Clone, Copy)]
+pub(crate) enum Origin<'a> {
+    Bytes(&'a [u8]),
+    Zero,
+}
+
+// How the array of a script begins.
+#[derive(Clone, Copy)]
+pub(crate) enum Begin {
+    Open,
+    Format,
+}
+
 // How a script begins.
 #[derive(Clone, Copy)]
-pub(crate) struct Start {
+pub(crate) struct Start<'a> {
     pub(crate) cards: u32,
     pub(crate) blocks: u32,
     pub(crate) tag: u32,
-    pub(crate) zero: bool,
-    pub(crate) format: bool,
+    pub(crate) image: Origin<'a>,
+    pub(crate) begin: Begin,
 }
 
 type Cards<C> = Array<FaultLayer<Image>, C>;
@@ -38,29 +55,39 @@ struct Player<C> {
     findings: [Finding; 8],
 }
 
-fn blank_finding(slot: u32) -> Finding {
-    Finding {
-        slot,
-        block: 0,
-        condition: Condition::NotLooked,
-        layer: None,
-        lead: None,
-        mended: false,
-    }
-}
-
 fn blank_findings() -> [Finding; 8] {
-    let mut rows = [blank_finding(0); 8];
-    for slot in 0..8u32 {
-        rows[slot as usize] = blank_finding(slot);
-    }
-    rows
+    from_fn(|slot| Finding {
+        slot: slot as u32,
+        ..Finding::default()
+    })
 }
 
 fn source_word(source: Source) -> u32 {
     match source {
         Source::Found => 0,
         Source::Rebuilt => 1,
+    }
+}
+
+fn sight_word(sight: Sight) -> u32 {
+    match sight {
+        Sight::Present => 0,
+        Sight::Blind => 1,
+    }
+}
+
+fn state_words(state: SlotState) -> [u32; 2] {
+    match state {
+        SlotState::In => [0, 0],
+        SlotState::Out => [1, 0],
+        SlotState::Filling(n) => [2, n],
+    }
+}
+
+fn error_word(error: MakeError) -> u32 {
+    match error {
+        MakeError::Refused(refusal) => refusal_word(Some(refusal)),
+        MakeError::NoMemory => NO_MEMORY,
     }
 }
 
@@ -83,26 +110,20 @@ fn play_read<C: Checksum>(
 ) {
     let mut first = [170u8; 1024];
     let mut second = [170u8; 1024];
-    let found = &mut first[0..words.found.min(1024)];
-    let rebuilt = &mut second[0..words.rebuilt.min(1024)];
+    let found = words.found.of(&mut first);
+    let rebuilt = words.rebuilt.of(&mut second);
     let switch = Switch {
         mending: words.mending,
     };
-    match array.read(
+    let answer = array.read(
         words.address,
         words.owner,
         &switch,
         found,
         rebuilt,
         findings,
-    ) {
-        Ok(answer) => {
-            out.outcome(None);
-            out.word(source_word(answer.source));
-            out.word(answer.looks);
-        }
-        Err(refusal) => out.outcome(Some(refusal)),
-    }
+    );
+    out.answer(answer.map(|read| [source_word(read.source), read.looks]));
     out.bytes(found);
     out.bytes(rebuilt);
     out.findings(findings);
@@ -116,19 +137,14 @@ fn play_write<C: Checksum>(
     findings: &mut [Finding; 8],
     out: &mut Answers,
 ) {
-    match array.write(
+    let answer = array.write(
         words.address,
         words.owner,
         words.payload,
         words.way,
         findings,
-    ) {
-        Ok(answer) => {
-            out.outcome(None);
-            out.word(answer.looks);
-        }
-        Err(refusal) => out.outcome(Some(refusal)),
-    }
+    );
+    out.answer(answer.map(|written| [written.looks]));
     out.findings(findings);
 }
 
@@ -138,57 +154,35 @@ fn play_scrub<C: Checksum>(
     findings: &mut [Finding; 8],
     out: &mut Answers,
 ) {
-    match array.scrub(stripes, findings) {
-        Ok(counts) => {
-            out.outcome(None);
-            out.word(counts.looked);
-            out.word(counts.clean);
-            out.word(counts.mended);
-            out.word(counts.short);
-            out.word(counts.lost);
-        }
-        Err(refusal) => out.outcome(Some(refusal)),
-    }
+    let answer = array.scrub(stripes, findings);
+    out.answer(answer.map(|counts| {
+        [
+            counts.looked,
+            counts.clean,
+            counts.mended,
+            counts.short,
+            counts.lost,
+        ]
+    }));
     out.findings(findings);
-}
-
-fn refusal_word(refusal: Option<Refusal>) -> u32 {
-    match refusal {
-        None => 0,
-        Some(why) => u32::from(why.number()),
-    }
 }
 
 fn play_look<C: Checksum>(array: &mut Cards<C>, words: LookWords, out: &mut Answers) {
     let mut row = [170u8; 1024];
-    let seen = &mut row[0..words.length.min(1024)];
+    let seen = words.length.of(&mut row);
     let mut switch = Switch {
         mending: words.mending,
     };
-    match array.look(words.first, words.count, words.owner, &mut switch, seen) {
-        Ok(answer) => {
-            out.outcome(None);
-            out.word(answer.read);
-            out.word(refusal_word(answer.stopped));
-        }
-        Err(refusal) => out.outcome(Some(refusal)),
-    }
+    let answer = array.look(words.first, words.count, words.owner, &mut switch, seen);
+    out.answer(answer.map(|look| [look.read, refusal_word(look.stopped)]));
     out.bytes(seen);
     out.flag(switch.mending);
 }
 
-fn play_done(done: Result<(), Refusal>, out: &mut Answers) {
-    match done {
-        Ok(()) => out.outcome(None),
-        Err(refusal) => out.outcome(Some(refusal)),
-    }
-}
-
 // Gives up the job in hand, if there is one.
 fn let_go<C: Checksum>(array: &mut Cards<C>, job: Option<RebuildJob>, out: &mut Answers) {
-    match job {
-        None => {}
-        Some(held) => play_done(array.give_up(held), out),
+    if let Some(held) = job {
+        out.outcome(array.give_up(held).err());
     }
 }
 
@@ -219,15 +213,10 @@ fn play_rebuild<C: Checksum>(
 ) {
     match job {
         None => out.word(NO_JOB),
-        Some(held) => match array.rebuild(held, stripes) {
-            Ok(counts) => {
-                out.outcome(None);
-                out.word(counts.moved);
-                out.word(counts.mended);
-                out.word(counts.lost);
-            }
-            Err(refusal) => out.outcome(Some(refusal)),
-        },
+        Some(held) => {
+            let answer = array.rebuild(held, stripes);
+            out.answer(answer.map(|counts| [counts.moved, counts.mended, counts.lost]));
+        }
     }
 }
 
@@ -236,141 +225,102 @@ fn play_finish<C: Checksum>(
     job: Option<RebuildJob>,
     out: &mut Answers,
 ) -> Option<RebuildJob> {
-    match job {
-        None => {
-            out.word(NO_JOB);
+    let Some(held) = job else {
+        out.word(NO_JOB);
+        return None;
+    };
+    match array.finish(held) {
+        Ok(()) => {
+            out.outcome(None);
             None
         }
-        Some(held) => match array.finish(held) {
-            Ok(()) => {
-                out.outcome(None);
-                None
-            }
-            Err(RefusedJob { refusal, job: kept }) => {
-                out.outcome(Some(refusal));
-                Some(kept)
-            }
-        },
+        Err(HandedBack { refusal, value }) => {
+            out.outcome(Some(refusal));
+            Some(value)
+        }
     }
 }
 
 fn play_give_up<C: Checksum>(array: &mut Cards<C>, job: Option<RebuildJob>, out: &mut Answers) {
     match job {
         None => out.word(NO_JOB),
-        Some(held) => play_done(array.give_up(held), out),
+        Some(held) => out.outcome(array.give_up(held).err()),
     }
 }
 
-fn play_state<C: Checksum>(array: &Cards<C>, slot: u32, out: &mut Answers) {
-    match array.slot_state(slot) {
-        Ok(state) => {
-            out.outcome(None);
-            match state {
-                SlotState::In => {
-                    out.word(0);
-                    out.word(0);
-                }
-                SlotState::Out => {
-                    out.word(1);
-                    out.word(0);
-                }
-                SlotState::Filling(n) => {
-                    out.word(2);
-                    out.word(n);
-                }
-            }
-        }
-        Err(refusal) => out.outcome(Some(refusal)),
-    }
-}
-
-// A call with no job and no reopening.
-fn play_plain<C: Checksum>(
+fn play_on_array<C: Checksum>(
     array: &mut Cards<C>,
     findings: &mut [Finding; 8],
-    call: Call,
+    call: ArrayCall,
     out: &mut Answers,
 ) {
     match call {
-        Call::Read(words) => play_read(array, words, findings, out),
-        Call::Write(words) => play_write(array, words, findings, out),
-        Call::Scrub(stripes) => play_scrub(array, stripes, findings, out),
-        Call::Look(words) => play_look(array, words, out),
-        Call::Pull(slot) => play_done(array.pull(slot), out),
-        Call::Lay(slot, block, plan) => play_done(array.lay(slot, block, plan), out),
-        Call::Blind(slot, block) => play_done(array.blind(slot, block), out),
-        Call::Flip(slot, block, index, mask) => {
-            play_done(array.flip(slot, block, index, mask), out)
+        ArrayCall::Read(words) => play_read(array, words, findings, out),
+        ArrayCall::Write(words) => play_write(array, words, findings, out),
+        ArrayCall::Scrub(stripes) => play_scrub(array, stripes, findings, out),
+        ArrayCall::Look(words) => play_look(array, words, out),
+        ArrayCall::Pull(slot) => out.outcome(array.pull(slot).err()),
+        ArrayCall::Lay(slot, block, plan) => out.outcome(array.lay(slot, block, plan).err()),
+        ArrayCall::Blind(slot, block) => out.outcome(array.blind(slot, block).err()),
+        ArrayCall::Flip(slot, block, index, mask) => {
+            out.outcome(array.flip(slot, block, index, mask).err())
         }
-        Call::Tally => out.word(array.tally()),
-        Call::SlotState(slot) => play_state(array, slot, out),
-        _ => {}
+        ArrayCall::Tally => out.word(array.tally()),
+        ArrayCall::SlotState(slot) => out.answer(array.slot_state(slot).map(state_words)),
     }
 }
 
-fn play_shelf_read(
+// Answers the job in hand afterwards.
+fn play_on_job<C: Checksum>(
+    array: &mut Cards<C>,
+    job: Option<RebuildJob>,
+    call: JobCall,
+    out: &mut Answers,
+) -> Option<RebuildJob> {
+    match call {
+        JobCall::Fit(slot) => play_fit(array, job, slot, out),
+        JobCall::Rebuild(stripes) => {
+            play_rebuild(array, &job, stripes, out);
+            job
+        }
+        JobCall::Finish => play_finish(array, job, out),
+        JobCall::GiveUp => {
+            play_give_up(array, job, out);
+            None
+        }
+    }
+}
+
+fn play_layer_read(
     layer: &FaultLayer<Image>,
     slot: u32,
     block: u32,
-    len: usize,
+    length: Length,
     out: &mut Answers,
 ) {
     let mut row = [170u8; 1024];
-    let seen = &mut row[0..len.min(1024)];
-    match layer.read(slot, block, seen) {
-        Ok(sight) => {
-            out.outcome(None);
-            match sight {
-                Sight::Present => out.word(0),
-                Sight::Blind => out.word(1),
-            }
-        }
-        Err(refusal) => out.outcome(Some(refusal)),
-    }
+    let seen = length.of(&mut row);
+    let answer = layer.read(slot, block, seen);
+    out.answer(answer.map(|sight| [sight_word(sight)]));
     out.bytes(seen);
 }
 
-// The closing part, once the array is closed.
-fn close_layer<C: Checksum>(heap: Global, layer: FaultLayer<Image>, tag: u32, out: &mut Answers) {
-    out.word(layer.rows_used());
-    let image = layer.into_inner();
-    let blocks = image.block_count() as usize;
-    match vec![in heap; 170u8; blocks] {
-        Ok(made) => {
-            let mut masks = made;
-            play_done(
-                survey::<_, C>(&image.view(), tag, masks.as_mut_slice()),
-                out,
-            );
-            out.bytes(masks.as_slice());
-        }
-        Err(_) => out.word(NO_MEMORY),
-    }
-    let bytes = image.into_bytes();
-    out.bytes(bytes.as_slice());
-}
-
-// The array closed, and opened again over the same layer.
-fn opened_again<C: Checksum>(layer: FaultLayer<Image>, tag: u32) -> Cards<C>
-    requires { 1 ≤ tag }
-{
-    match Array::open(layer, tag) {
-        Ok(array) => array,
-        Err(_) => unreachable(),
-    }
-}
-
-// A call for which the array is closed, and opened again afterwards.
-fn play_below<C: Checksum>(array: Cards<C>, tag: u32, call: Call, out: &mut Answers) -> Cards<C>
+// The array is closed for the call, and opened again over the same layer.
+fn play_on_layer<C: Checksum>(
+    array: Cards<C>,
+    tag: u32,
+    call: LayerCall,
+    out: &mut Answers,
+) -> Cards<C>
     requires { 1 ≤ tag }
 {
     let mut layer = array.close();
     match call {
-        Call::ShelfRead(slot, block, len) => play_shelf_read(&layer, slot, block, len, out),
-        Call::ShelfWrite(slot, block, bytes) => play_done(layer.write(slot, block, bytes), out),
-        _ => out.outcome(None),
+        LayerCall::Reopen => out.outcome(None),
+        LayerCall::Read(slot, block, length) => play_layer_read(&layer, slot, block, length, out),
+        LayerCall::Write(slot, block, bytes) => out.outcome(layer.write(slot, block, bytes).err()),
     }
-    opened_again(layer, tag)
+    Array::open(layer, tag).unwrap()
 }
 
 // One call.
@@ -378,68 +328,19 @@ fn play<C: Checksum>(player: Player<C>, tag: u32, call: Call, out: &mut Answers)
     requires { 1 ≤ tag }
 {
     let Player {
-        array: held,
-        job,
-        findings: rows,
+        mut array,
+        mut job,
+        mut findings,
     } = player;
-    let mut array = held;
-    let mut findings = rows;
     match call {
-        Call::Fit(slot) => {
-            let fresh = play_fit(&mut array, job, slot, out);
-            Player {
-                array,
-                job: fresh,
-                findings,
-            }
-        }
-        Call::Rebuild(stripes) => {
-            play_rebuild(&mut array, &job, stripes, out);
-            Player {
-                array,
-                job,
-                findings,
-            }
-        }
-        Call::Finish => {
-            let kept = play_finish(&mut array, job, out);
-            Player {
-                array,
-                job: kept,
-                findings,
-            }
-        }
-        Call::GiveUp => {
-            play_give_up(&mut array, job, out);
-            Player {
-                array,
-                job: None,
-                findings,
-            }
-        }
-        Call::Reopen => Player {
-            array: play_below(array, tag, call, out),
-            job,
-            findings,
-        },
-        Call::ShelfRead(_, _, _) => Player {
-            array: play_below(array, tag, call, out),
-            job,
-            findings,
-        },
-        Call::ShelfWrite(_, _, _) => Player {
-            array: play_below(array, tag, call, out),
-            job,
-            findings,
-        },
-        _ => {
-            play_plain(&mut array, &mut findings, call, out);
-            Player {
-                array,
-                job,
-                findings,
-            }
-        }
+        Call::Array(call) => play_on_array(&mut array, &mut findings, call, out),
+        Call::Job(call) => job = play_on_job(&mut array, job, call, out),
+        Call::Layer(call) => array = play_on_layer(array, tag, call, out),
+    }
+    Player {
+        array,
+        job,
+        findings,
     }
 }
 
@@ -452,12 +353,8 @@ fn play_all<C: Checksum>(array: Cards<C>, tag: u32, calls: Calls, out: &mut Answ
         job: None,
         findings: blank_findings(),
     };
-    let mut reader = calls;
-    for _ in 0..reader.length_left() {
-        match reader.next_call() {
-            Some(call) => player = play(player, tag, call, out),
-            None => return player,
-        }
+    for call in calls {
+        player = play(player, tag, call, out);
     }
     player
 }
@@ -466,81 +363,72 @@ fn play_all<C: Checksum>(array: Cards<C>, tag: u32, calls: Calls, out: &mut Answ
 fn begun<C: Checksum>(
     layer: FaultLayer<Image>,
     start: Start,
-) -> Result<Cards<C>, RefusedShelf<FaultLayer<Image>>>
-    ensures { OnOk result (1 ≤ start.tag) }
+) -> Result<Cards<C>, HandedBack<FaultLayer<Image>>>
+    ensures { OnOk result (1 ≤ start.entry.tag) }
 {
-    if start.format {
-        Array::format(layer, start.tag)
-    } else {
-        Array::open(layer, start.tag)
+    match start.begin {
+        Begin::Open => Array::open(layer, start.tag),
+        Begin::Format => Array::format(layer, start.tag),
     }
 }
 
-fn replay_on<C: Checksum>(
-    heap: Global,
+// Plays the calls on an array over the layer; answers the layer when the array is closed.
+fn play_over<C: Checksum>(
+    layer: FaultLayer<Image>,
     start: Start,
-    image: Image,
     calls: Calls,
     out: &mut Answers,
-) {
-    let tag = start.tag;
-    match begun::<C>(FaultLayer::over(image), start) {
+) -> FaultLayer<Image> {
+    match begun::<C>(layer, start) {
         Ok(array) => {
             out.outcome(None);
             let Player {
-                array: last,
+                mut array,
                 job,
                 findings: _,
-            } = play_all(array, tag, calls, out);
-            let mut ended = last;
-            let_go(&mut ended, job, out);
-            close_layer::<C>(heap, ended.close(), tag, out);
+            } = play_all(array, start.tag, calls, out);
+            let_go(&mut array, job, out);
+            array.close()
         }
-        Err(RefusedShelf { refusal, shelf }) => {
+        Err(HandedBack { refusal, value }) => {
             out.outcome(Some(refusal));
-            close_layer::<C>(heap, shelf, tag, out);
+            value
         }
     }
 }
 
-fn copied(heap: Global, bytes: &[u8]) -> Option<Vec<u8>> {
-    match bytes.to_vec(heap) {
-        Ok(all) => Some(all),
-        Err(_) => None,
+// The closing part, once the array is closed.
+fn close_layer<C: Checksum>(heap: Global, layer: FaultLayer<Image>, tag: u32, out: &mut Answers) {
+    out.word(layer.rows_used());
+    let image = layer.into_inner();
+    match vec![in heap; 170u8; image.block_count() as usize] {
+        Ok(mut masks) => {
+            out.outcome(survey::<_, C>(&image.view(), tag, masks.as_mut_slice()).err());
+            out.bytes(masks.as_slice());
+        }
+        Err(_) => out.word(NO_MEMORY),
     }
+    out.bytes(image.into_bytes().as_slice());
 }
 
-// The image of a script, or the word that says why there is none.
-fn image_of(heap: Global, start: Start, bytes: &[u8]) -> Result<Image, u32> {
-    if start.zero {
-        return match Image::zero(heap, start.cards, start.blocks) {
-            Ok(image) => Ok(image),
-            Err(MakeError::Refused(refusal)) => Err(u32::from(refusal.number())),
-            Err(MakeError::NoMemory) => Err(NO_MEMORY),
-        };
-    }
-    let Some(all) = copied(heap, bytes) else {
-        return Err(NO_MEMORY);
-    };
-    match Image::open(start.cards, start.blocks, all) {
-        Ok(image) => Ok(image),
-        Err(RefusedImage { refusal, bytes: _ }) => Err(u32::from(refusal.number())),
+// The image of a script.
+fn image_of(heap: Global, start: Start) -> Result<Image, MakeError> {
+    match start.image {
+        Origin::Bytes(bytes) => Image::open(start.cards, start.blocks, bytes.to_vec(heap)?).map_err(
+            |back| MakeError::from(back.refusal),
+        ),
+        Origin::Zero => Image::zero(heap, start.cards, start.blocks),
     }
 }
 
 // Makes an image, a fault layer and an array, plays the calls, and tells what they answer.
-pub(crate) fn replay<C: Checksum>(
-    heap: Global,
-    start: Start,
-    bytes: &[u8],
-    calls: Calls,
-    out: &mut Answers,
-) {
-    match image_of(heap, start, bytes) {
+pub(crate) fn replay<C: Checksum>(heap: Global, start: Start, calls: Calls, out: &mut Answers) {
+    match image_of(heap, start) {
         Ok(image) => {
             out.outcome(None);
-            replay_on::<C>(heap, start, image, calls, out);
+            let layer = play_over::<C>(FaultLayer::over(image), start, calls, out);
+            close_layer::<C>(heap, layer, start.tag, out);
         }
-        Err(word) => out.word(word),
+        Err(error) => out.word(error_word(error)),
     }
 }

@@ -1,14 +1,14 @@
 // Work whose time is measured: one kind of call on an array over an image, many times.
 ghost use Rattle.std.specs.Prelude.{◌≤◌};
 
-use array::{Array, RefusedJob, show};
-use block::Refusal;
+use array::{Array, show};
+use block::{HandedBack, Refusal};
 use checksum::Checksum;
 use image::Image;
-use runs::{ReadAnswer, Switch, Way};
+use runs::{Switch, Way};
 use shelf::{ReadableShelf, WritableShelf};
 use std::alloc::Global;
-use stripe::{Condition, Finding};
+use stripe::Finding;
 
 // What stands for work that could not begin.
 const NONE: u64 = 18446744073709551615;
@@ -16,13 +16,47 @@ const NONE: u64 = 18446744073709551615;
 // The owner of every record.
 const OWNER: u32 = 7;
 
+// The order of the addresses.
+#[derive(Clone, Copy)]
+pub(crate) enum Order {
+    Rising,
+    Random,
+}
+
+// A kind of work.
+#[derive(Clone, Copy)]
+pub(crate) enum Kind {
+    Nothing,
+    Format,
+    Reads(Order),
+    Writes(Way),
+    Scrub,
+    Rebuild,
+}
+
+// The kind that a number names. A number that names none is nothing to do.
+impl From<u32> for Kind {
+    fn from(number: u32) -> Kind {
+        match number {
+            1 => Kind::Format,
+            2 => Kind::Reads(Order::Rising),
+            3 => Kind::Reads(Order::Random),
+            4 => Kind::Writes(Way::Additive),
+            5 => Kind::Writes(Way::Subtractive),
+            6 => Kind::Scrub,
+            7 => Kind::Rebuild,
+            _ => Kind::Nothing,
+        }
+    }
+}
+
 // An array's shape and tag, the kind of work and how much of it.
 #[derive(Clone, Copy)]
 pub(crate) struct Work {
     pub(crate) cards: u32,
     pub(crate) blocks: u32,
     pub(crate) tag: u32,
-    pub(crate) what: u32,
+    pub(crate) kind: Kind,
     pub(crate) count: u32,
 }
 
@@ -32,19 +66,12 @@ fn mixed(number: u64, n: u32) -> u64 {
     number.wrapping_mul(31).wrapping_add(u64::from(n))
 }
 
-fn refused(number: u64, refusal: Refusal) -> u64 {
-    mixed(number, u32::from(refusal.number()))
-}
-
-fn blank() -> [Finding; 8] {
-    [Finding {
-        slot: 0,
-        block: 0,
-        condition: Condition::NotLooked,
-        layer: None,
-        lead: None,
-        mended: false,
-    }; 8]
+// The words of an accepted call mixed in, or the refusal's number.
+fn mixed_answer<const N: usize>(number: u64, answer: Result<[u32; N], Refusal>) -> u64 {
+    match &answer {
+        Ok(words) => words.iter().copied().fold(number, mixed),
+        Err(refusal) => mixed(number, u32::from(refusal.number())),
+    }
 }
 
 // The next number of the sequence that random addresses come from.
@@ -67,131 +94,84 @@ fn addresses_of(work: Work) -> u32
     width.saturating_mul(work.blocks).max(1)
 }
 
-// What is mixed in of an accepted read: its first payload byte and its looks.
-fn read_mixed(number: u64, answer: ReadAnswer, found: &[u8], rebuilt: &[u8]) -> u64 {
-    match show(answer.source, found, rebuilt) {
-        Ok(payload) => {
-            let first = payload.first().copied().unwrap_or(0);
-            mixed(mixed(number, u32::from(first)), answer.looks)
-        }
-        Err(refusal) => refused(number, refusal),
-    }
-}
-
+// One read: its first payload byte and its looks.
 fn read_one<C: Checksum>(
     array: &mut Cards<C>,
-    number: u64,
     address: u32,
     found: &mut [u8; 128],
     rebuilt: &mut [u8; 128],
     findings: &mut [Finding; 8],
-) -> u64 {
+) -> Result<[u32; 2], Refusal> {
     let switch = Switch { mending: false };
-    match array.read(address, OWNER, &switch, found, rebuilt, findings) {
-        Ok(answer) => read_mixed(number, answer, found, rebuilt),
-        Err(refusal) => refused(number, refusal),
-    }
+    let answer = array.read(address, OWNER, &switch, found, rebuilt, findings)?;
+    let payload = show(answer.source, found, rebuilt)?;
+    let first = payload.first().copied().unwrap_or(0);
+    Ok([u32::from(first), answer.looks])
 }
 
-fn reads<C: Checksum>(array: &mut Cards<C>, work: Work, random: bool) -> u64 {
+fn reads<C: Checksum>(array: &mut Cards<C>, work: Work, order: Order) -> u64 {
     let addresses = addresses_of(work);
     let mut found = [0u8; 128];
     let mut rebuilt = [0u8; 128];
-    let mut findings = blank();
+    let mut findings = [Finding::default(); 8];
     let mut number = 0;
     let mut x = 1;
     for i in 0..work.count {
         x = drawn(x);
-        let address = if random { address_of(x, addresses) } else { i };
-        number = read_one(
-            array,
-            number,
-            address,
-            &mut found,
-            &mut rebuilt,
-            &mut findings,
-        );
+        let address = match order {
+            Order::Rising => i,
+            Order::Random => address_of(x, addresses),
+        };
+        let answer = read_one(array, address, &mut found, &mut rebuilt, &mut findings);
+        number = mixed_answer(number, answer);
     }
     number
-}
-
-fn write_one<C: Checksum>(
-    array: &mut Cards<C>,
-    number: u64,
-    address: u32,
-    byte: u8,
-    way: Way,
-    findings: &mut [Finding; 8],
-) -> u64 {
-    match array.write(address, OWNER, &[byte; 80], way, findings) {
-        Ok(answer) => mixed(number, answer.looks),
-        Err(refusal) => refused(number, refusal),
-    }
 }
 
 fn writes<C: Checksum>(array: &mut Cards<C>, work: Work, way: Way) -> u64 {
     let addresses = addresses_of(work);
-    let mut findings = blank();
+    let mut findings = [Finding::default(); 8];
     let mut number = 0;
     let mut x = 1;
     for i in 0..work.count {
         x = drawn(x);
+        let payload = [(i & 255) as u8; 80];
         let address = address_of(x, addresses);
-        number = write_one(array, number, address, (i & 255) as u8, way, &mut findings);
+        let answer = array.write(address, OWNER, &payload, way, &mut findings);
+        number = mixed_answer(number, answer.map(|written| [written.looks]));
     }
     number
 }
 
-fn scrub<C: Checksum>(array: &mut Cards<C>, work: Work) -> u64 {
-    let mut findings = blank();
-    match array.scrub(work.count, &mut findings) {
-        Ok(counts) => {
-            let looked = mixed(0, counts.looked);
-            let clean = mixed(looked, counts.clean);
-            let mended = mixed(clean, counts.mended);
-            let short = mixed(mended, counts.short);
-            mixed(short, counts.lost)
-        }
-        Err(refusal) => refused(0, refusal),
-    }
+fn scrub<C: Checksum>(array: &mut Cards<C>, count: u32) -> Result<[u32; 5], Refusal> {
+    let counts = array.scrub(count, &mut [Finding::default(); 8])?;
+    Ok([
+        counts.looked,
+        counts.clean,
+        counts.mended,
+        counts.short,
+        counts.lost,
+    ])
 }
 
-fn rebuild<C: Checksum>(array: &mut Cards<C>, work: Work) -> u64 {
-    if let Err(refusal) = array.pull(1) {
-        return refused(0, refusal);
+fn rebuild<C: Checksum>(array: &mut Cards<C>, count: u32) -> Result<[u32; 3], Refusal> {
+    array.pull(1)?;
+    let job = array.fit(1)?;
+    let answer = array.rebuild(&job, count);
+    if let Err(HandedBack { refusal: _, value }) = array.finish(job) {
+        let _ = array.give_up(value);
     }
-    match array.fit(1) {
-        Ok(job) => {
-            let number = match array.rebuild(&job, work.count) {
-                Ok(counts) => mixed(mixed(mixed(0, counts.moved), counts.mended), counts.lost),
-                Err(refusal) => refused(0, refusal),
-            };
-            match array.finish(job) {
-                Ok(()) => {}
-                Err(
-                    RefusedJob {
-                        refusal: _,
-                        job: kept,
-                    },
-                ) => {
-                    let _ = array.give_up(kept);
-                }
-            }
-            number
-        }
-        Err(refusal) => refused(0, refusal),
-    }
+    let counts = answer?;
+    Ok([counts.moved, counts.mended, counts.lost])
 }
 
 fn worked<C: Checksum>(array: &mut Cards<C>, work: Work) -> u64 {
-    match work.what {
-        2 => reads(array, work, false),
-        3 => reads(array, work, true),
-        4 => writes(array, work, Way::Additive),
-        5 => writes(array, work, Way::Subtractive),
-        6 => scrub(array, work),
-        7 => rebuild(array, work),
-        _ => 0,
+    match work.kind {
+        Kind::Nothing | Kind::Format => 0,
+        Kind::Reads(order) => reads(array, work, order),
+        Kind::Writes(way) => writes(array, work, way),
+        Kind::Scrub => mixed_answer(0, scrub(array, work.count)),
+        Kind::Rebuild => mixed_answer(0, rebuild(array, work.count)),
     }
 }
 
@@ -202,34 +182,22 @@ fn last_byte(bytes: &[u8], work: Work) -> u8 {
     bytes.get(end.saturating_sub(1)).copied().unwrap_or(0)
 }
 
-// Opens or formats the array, works on it, and closes it. At the end the last byte of the last block is mixed in.
-fn bench_on<C: Checksum>(image: Image, work: Work) -> u64 {
-    let begun = if work.what == 1 {
-        Cards::<C>::format(image, work.tag)
-    } else {
-        Cards::<C>::open(image, work.tag)
+// Opens or formats an array over an image of a copy of the bytes, works on it, and closes it. At the end the last byte of
+// the last block is mixed in.
+fn done<C: Checksum>(heap: Global, work: Work, bytes: &[u8]) -> Option<u64> {
+    let copy = bytes.to_vec(heap).ok()?;
+    let image = Image::open(work.cards, work.blocks, copy).ok()?;
+    let begun = match work.kind {
+        Kind::Format => Cards::<C>::format(image, work.tag),
+        _ => Cards::<C>::open(image, work.tag),
     };
-    match begun {
-        Ok(made) => {
-            let mut array = made;
-            let number = worked(&mut array, work);
-            let image = array.close();
-            mixed(
-                number,
-                u32::from(last_byte(image.into_bytes().as_slice(), work)),
-            )
-        }
-        Err(_) => NONE,
-    }
+    let mut array = begun.ok()?;
+    let number = worked(&mut array, work);
+    let image = array.close().into_bytes();
+    Some(mixed(number, u32::from(last_byte(image.as_slice(), work))))
 }
 
-// Makes an image of a copy of the bytes, and does the work on an array over it.
+// Does the work on an array over an image of the bytes; answers a number that depends on the results.
 pub(crate) fn bench<C: Checksum>(heap: Global, work: Work, bytes: &[u8]) -> u64 {
-    let Ok(all) = bytes.to_vec(heap) else {
-        return NONE;
-    };
-    match Image::open(work.cards, work.blocks, all) {
-        Ok(image) => bench_on::<C>(image, work),
-        Err(_) => NONE,
-    }
+    done::<C>(heap, work, bytes).unwrap_or(NONE)
 }

@@ -19,6 +19,7 @@ use outside::finding::blank;
 use outside::images::{self, Harm, Versions};
 use outside::rng::Rng;
 use outside::shelf::Image;
+use outside::start;
 
 type Side = fn(&Job) -> u64;
 
@@ -41,10 +42,7 @@ impl Options {
     fn parse(mut arguments: impl Iterator<Item = String>) -> Result<Self, String> {
         let mut options = Self { cards: 5, blocks: 65_536, rounds: 7, alone: false };
         while let Some(argument) = arguments.next() {
-            let mut number = || {
-                let text = arguments.next().ok_or(format!("{argument} wants a number"))?;
-                text.parse::<u32>().map_err(|error| format!("{argument} {text}: {error}"))
-            };
+            let mut number = || start::number::<u32>(&argument, arguments.next());
             match argument.as_str() {
                 "--cards" => options.cards = number()?,
                 "--blocks" => options.blocks = number()?,
@@ -58,27 +56,17 @@ impl Options {
 }
 
 fn main() -> ExitCode {
-    let (options, shape) = match Options::parse(env::args().skip(1)).and_then(|options| {
-        Ok((Shape::new(options.cards, options.blocks).map_err(|error| error.to_string())?, options))
-    }) {
-        Ok((shape, options)) => (options, shape),
-        Err(error) => {
-            eprintln!("{error}\n{USAGE}");
-            return ExitCode::from(2);
-        }
-    };
-    let other = match (options.alone, OTHER_SIDE) {
-        (true, _) => None,
-        (false, Some(side)) => Some(side),
-        (false, None) => {
-            eprintln!("built without the feature `boundary`: there is nothing to compare with, so use --alone");
-            return ExitCode::from(2);
-        }
-    };
+    start::exit(run())
+}
+
+fn run() -> Result<bool, String> {
+    let options = Options::parse(env::args().skip(1)).map_err(|error| format!("{error}\n{USAGE}"))?;
+    let shape = Shape::new(options.cards, options.blocks).map_err(|error| format!("{error}\n{USAGE}"))?;
+    let other = start::other_side(options.alone, OTHER_SIDE)?;
     print_head(&options, other.is_some());
     let fletcher = measure::<Fletcher>("Fletcher-32", &options, shape, other);
     let turning = measure::<Turning>("turning sum", &options, shape, other);
-    if fletcher && turning { ExitCode::SUCCESS } else { ExitCode::FAILURE }
+    Ok(fletcher && turning)
 }
 
 fn print_head(options: &Options, both: bool) {

@@ -20,6 +20,7 @@ use outside::generate::{Script, generate};
 use outside::replay::{Part, Piece, Setup, replay, replay_with_pieces};
 use outside::rng::Rng;
 use outside::shelf::{ImageView, ReadableShelf};
+use outside::start;
 use outside::stripe::{ALL_IN, Stripe};
 
 /// The two functions of the other side.
@@ -49,14 +50,10 @@ struct Options {
 }
 
 impl Options {
-    fn parse(arguments: impl Iterator<Item = String>) -> Result<Self, String> {
+    fn parse(mut arguments: impl Iterator<Item = String>) -> Result<Self, String> {
         let mut options = Self { scripts: None, seed: 1, seconds: None, script: None, alone: false, verbose: false };
-        let mut arguments = arguments;
         while let Some(argument) = arguments.next() {
-            let mut number = || {
-                let text = arguments.next().ok_or(format!("{argument} wants a number"))?;
-                text.parse::<u64>().map_err(|error| format!("{argument} {text}: {error}"))
-            };
+            let mut number = || start::number::<u64>(&argument, arguments.next());
             match argument.as_str() {
                 "--scripts" => options.scripts = Some(number()?),
                 "--seed" => options.seed = number()?,
@@ -75,26 +72,16 @@ impl Options {
 }
 
 fn main() -> ExitCode {
-    let options = match Options::parse(env::args().skip(1)) {
-        Ok(options) => options,
-        Err(error) => {
-            eprintln!("{error}\n{USAGE}");
-            return ExitCode::from(2);
-        }
-    };
-    let other = match (options.alone, OTHER_SIDE) {
-        (true, _) => None,
-        (false, Some(side)) => Some(side),
-        (false, None) => {
-            eprintln!("built without the feature `boundary`: there is nothing to compare with, so use --alone");
-            return ExitCode::from(2);
-        }
-    };
-    let same = match options.script {
+    start::exit(run())
+}
+
+fn run() -> Result<bool, String> {
+    let options = Options::parse(env::args().skip(1)).map_err(|error| format!("{error}\n{USAGE}"))?;
+    let other = start::other_side(options.alone, OTHER_SIDE)?;
+    Ok(match options.script {
         Some(seed) => play_one(seed, other),
         None => play_many(&options, other),
-    };
-    if same { ExitCode::SUCCESS } else { ExitCode::FAILURE }
+    })
 }
 
 /// Plays the script of one seed and shows it.
