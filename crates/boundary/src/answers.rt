@@ -81,8 +81,8 @@ impl<'a> Answers<'a> {
         match &answer {
             Ok(words) => {
                 self.outcome(None);
-                for word in words {
-                    self.word(*word);
+                for &word in words {
+                    self.word(word);
                 }
             }
             Err(refusal) => self.outcome(Some(*refusal)),

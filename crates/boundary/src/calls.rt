@@ -3,10 +3,10 @@ ghost use Rattle.std.specs.Prelude.{◌<◌, ◌≤◌, length, OnSome};
 ghost use Rattle.std.specs.Iterator.{at_most};
 
 use faults::Plan;
-use runs::Way;
+use runs::{Switch, Way};
 
 // No buffer and no byte string of a call is longer than this.
-const LONGEST: u32 = 1024;
+pub(crate) const LONGEST: usize = 1024;
 
 // The bytes of a script that are not yet read. It gives the calls, up to the first that is not all there.
 #[derive(Drop)]
@@ -23,7 +23,7 @@ pub(crate) struct Length {
 
 impl Length {
     // So many of the bytes.
-    pub(crate) fn of(self, bytes: &mut [u8; 1024]) -> &mut [u8] {
+    pub(crate) fn of(self, bytes: &mut [u8; LONGEST]) -> &mut [u8] {
         &mut bytes[..self.bytes]
     }
 }
@@ -72,7 +72,7 @@ pub(crate) enum LayerCall<'a> {
 pub(crate) struct ReadWords {
     pub(crate) address: u32,
     pub(crate) owner: u32,
-    pub(crate) mending: bool,
+    pub(crate) switch: Switch,
     pub(crate) found: Length,
     pub(crate) rebuilt: Length,
 }
@@ -90,7 +90,7 @@ pub(crate) struct LookWords {
     pub(crate) first: u32,
     pub(crate) count: u32,
     pub(crate) owner: u32,
-    pub(crate) mending: bool,
+    pub(crate) switch: Switch,
     pub(crate) length: Length,
 }
 
@@ -109,10 +109,12 @@ impl<'a> Calls<'a> {
         Some(u32::from_be_bytes(*word))
     }
 
-    fn flag(&mut self) -> Option<bool>
+    fn switch(&mut self) -> Option<Switch>
         ensures { length self.new.rest.now ≤ length self.old.rest.now }
     {
-        Some(self.word()? != 0)
+        Some(Switch {
+            mending: self.word()? != 0,
+        })
     }
 
     // A length, at most the longest.
@@ -120,7 +122,7 @@ impl<'a> Calls<'a> {
         ensures { length self.new.rest.now ≤ length self.old.rest.now }
     {
         Some(Length {
-            bytes: self.word()?.min(LONGEST) as usize,
+            bytes: (self.word()? as usize).min(LONGEST),
         })
     }
 
@@ -160,7 +162,7 @@ impl<'a> Calls<'a> {
         Some(ReadWords {
             address: self.word()?,
             owner: self.word()?,
-            mending: self.flag()?,
+            switch: self.switch()?,
             found: self.length()?,
             rebuilt: self.length()?,
         })
@@ -184,7 +186,7 @@ impl<'a> Calls<'a> {
             first: self.word()?,
             count: self.word()?,
             owner: self.word()?,
-            mending: self.flag()?,
+            switch: self.switch()?,
             length: self.length()?,
         })
     }

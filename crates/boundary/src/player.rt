@@ -3,24 +3,27 @@ ghost use Rattle.std.specs.Prelude.{◌≤◌, OnOk};
 
 use crate::answers::{Answers, refusal_word};
 use crate::calls::{
-    ArrayCall, Call, Calls, JobCall, LayerCall, Length, LookWords, ReadWords, WriteWords,
+    ArrayCall, Call, Calls, JobCall, LONGEST, LayerCall, Length, LookWords, ReadWords, WriteWords,
 };
 use array::{Array, RebuildJob, show};
 use block::HandedBack;
 use checksum::Checksum;
 use faults::FaultLayer;
 use image::{Image, MakeError};
-use runs::{Source, Switch};
+use runs::Source;
 use shelf::{ReadableShelf, Sight, WritableShelf};
 use std::alloc::Global;
 use std::array::from_fn;
 use stripe::{Finding, SlotState, survey};
 
+// What buffers are filled with before they are handed in.
+const FILL: u8 = 170;
+
 // What stands for want of memory.
 const NO_MEMORY: u32 = 255;
 
 // What stands for a job that is not in hand.
-const NO_JOB: u32 = 4294967295;
+const NO_JOB: u32 = u32::MAX;
 
 // What the image of a script is made of.
 #[derive(Clone, Copy)]
@@ -108,17 +111,14 @@ fn play_read<C: Checksum>(
     findings: &mut [Finding; 8],
     out: &mut Answers,
 ) {
-    let mut first = [170u8; 1024];
-    let mut second = [170u8; 1024];
+    let mut first = [FILL; LONGEST];
+    let mut second = [FILL; LONGEST];
     let found = words.found.of(&mut first);
     let rebuilt = words.rebuilt.of(&mut second);
-    let switch = Switch {
-        mending: words.mending,
-    };
     let answer = array.read(
         words.address,
         words.owner,
-        &switch,
+        &words.switch,
         found,
         rebuilt,
         findings,
@@ -168,11 +168,9 @@ fn play_scrub<C: Checksum>(
 }
 
 fn play_look<C: Checksum>(array: &mut Cards<C>, words: LookWords, out: &mut Answers) {
-    let mut row = [170u8; 1024];
+    let mut row = [FILL; LONGEST];
     let seen = words.length.of(&mut row);
-    let mut switch = Switch {
-        mending: words.mending,
-    };
+    let mut switch = words.switch;
     let answer = array.look(words.first, words.count, words.owner, &mut switch, seen);
     out.answer(answer.map(|look| [look.read, refusal_word(look.stopped)]));
     out.bytes(seen);
@@ -270,7 +268,7 @@ fn play_on_array<C: Checksum>(
     }
 }
 
-// Answers the job in hand afterwards.
+// Answers the job that is in hand afterwards.
 fn play_on_job<C: Checksum>(
     array: &mut Cards<C>,
     job: Option<RebuildJob>,
@@ -298,7 +296,7 @@ fn play_layer_read(
     length: Length,
     out: &mut Answers,
 ) {
-    let mut row = [170u8; 1024];
+    let mut row = [FILL; LONGEST];
     let seen = length.of(&mut row);
     let answer = layer.read(slot, block, seen);
     out.answer(answer.map(|sight| [sight_word(sight)]));
@@ -372,7 +370,7 @@ fn begun<C: Checksum>(
     }
 }
 
-// Plays the calls on an array over the layer; answers the layer when the array is closed.
+// Plays the calls on an array over the layer, which is handed back.
 fn play_over<C: Checksum>(
     layer: FaultLayer<Image>,
     start: Start,
@@ -401,7 +399,7 @@ fn play_over<C: Checksum>(
 fn close_layer<C: Checksum>(heap: Global, layer: FaultLayer<Image>, tag: u32, out: &mut Answers) {
     out.word(layer.rows_used());
     let image = layer.into_inner();
-    match vec![in heap; 170u8; image.block_count() as usize] {
+    match vec![in heap; FILL; image.block_count() as usize] {
         Ok(mut masks) => {
             out.outcome(survey::<_, C>(&image.view(), tag, masks.as_mut_slice()).err());
             out.bytes(masks.as_slice());

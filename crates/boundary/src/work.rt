@@ -2,7 +2,7 @@
 ghost use Rattle.std.specs.Prelude.{◌≤◌};
 
 use array::{Array, show};
-use block::{HandedBack, Refusal};
+use block::Refusal;
 use checksum::Checksum;
 use image::Image;
 use runs::{Switch, Way};
@@ -11,7 +11,7 @@ use std::alloc::Global;
 use stripe::Finding;
 
 // What stands for work that could not begin.
-const NONE: u64 = 18446744073709551615;
+const NONE: u64 = u64::MAX;
 
 // The owner of every record.
 const OWNER: u32 = 7;
@@ -158,8 +158,8 @@ fn rebuild<C: Checksum>(array: &mut Cards<C>, count: u32) -> Result<[u32; 3], Re
     array.pull(1)?;
     let job = array.fit(1)?;
     let answer = array.rebuild(&job, count);
-    if let Err(HandedBack { refusal: _, value }) = array.finish(job) {
-        let _ = array.give_up(value);
+    if let Err(back) = array.finish(job) {
+        let _ = array.give_up(back.value);
     }
     let counts = answer?;
     Ok([counts.moved, counts.mended, counts.lost])
