@@ -7,7 +7,7 @@ ghost use Rattle.std.specs.Prelude.{◌≤◌, length};
 use answers::Answers;
 use calls::Calls;
 use checksum::{Fletcher, Turning};
-use player::{Begin, Origin, Start, replay};
+use player::{Begin, Start, replay};
 use std::alloc::Global;
 use work::{Kind, Work, bench};
 
@@ -52,10 +52,7 @@ pub extern "C" fn cards_replay(
         cards,
         blocks,
         tag,
-        image: match made {
-            0 => Origin::Bytes(image),
-            _ => Origin::Zero,
-        },
+        image: (made == 0).then_some(image),
         begin: match begun {
             0 => Begin::Open,
             _ => Begin::Format,

@@ -25,13 +25,6 @@ const NO_MEMORY: u32 = 255;
 // What stands for a job that is not in hand.
 const NO_JOB: u32 = u32::MAX;
 
-// What the image of a script is made of.
-#[derive(Clone, Copy)]
-pub(crate) enum Origin<'a> {
-    Bytes(&'a [u8]),
-    Zero,
-}
-
 // How the array of a script begins.
 #[derive(Clone, Copy)]
 pub(crate) enum Begin {
@@ -45,7 +38,7 @@ pub(crate) struct Start<'a> {
     pub(crate) cards: u32,
     pub(crate) blocks: u32,
     pub(crate) tag: u32,
-    pub(crate) image: Origin<'a>,
+    pub(crate) image: Option<&'a [u8]>,
     pub(crate) begin: Begin,
 }
 
@@ -412,10 +405,10 @@ fn close_layer<C: Checksum>(heap: Global, layer: FaultLayer<Image>, tag: u32, ou
 // The image of a script.
 fn image_of(heap: Global, start: Start) -> Result<Image, MakeError> {
     match start.image {
-        Origin::Bytes(bytes) => Image::open(start.cards, start.blocks, bytes.to_vec(heap)?).map_err(
+        Some(bytes) => Image::open(start.cards, start.blocks, bytes.to_vec(heap)?).map_err(
             |back| MakeError::from(back.refusal),
         ),
-        Origin::Zero => Image::zero(heap, start.cards, start.blocks),
+        None => Image::zero(heap, start.cards, start.blocks),
     }
 }
 

@@ -112,7 +112,8 @@ pub fn new_data<C: Checksum>(at: DataSpot, kept: &Record, version: u32) -> [u8; 
         .make_block::<C>(kept, &[version, 0, 0, 0, 0, 0, 0])
 }
 
-// The new parity block, by a plan. Where old parity is bad, the versions of the other indices come from the data.
+// The new parity block, by a plan. Where old parity is bad, the versions of the other indices come from the data. Plan and
+// bad are both the definition's: each pair of them makes another block.
 pub fn new_parity<C: Checksum>(
     stripe: &Stripe,
     at: DataSpot,

@@ -52,6 +52,7 @@ fn look_from<R: ReadableShelf, C: Checksum>(
     requires long { length out.old ≡ 80 * count }
     ensures { seen_as result out.new tally.new ≡ look_from (setup cards.now.frame C.MARK C.meaning) (R.holds cards.now.shelf.now) (slots_in cards.now.states.now) owner count first tally.old }
 {
+    // By number: after chunks_exact_mut a proof knows nothing of what the buffer ends as.
     for i in 0..count {
         let settled = look_read::<R, C>(cards, *tally, first + i, owner);
         *tally = settled.tally;

@@ -112,6 +112,7 @@ fn sweep_many<W: WritableShelf, C: Checksum>(
 {
     let mut counts = ScrubCounts::default();
     let mut stripe = Stripe::unseen();
+    // i tells which stripe is the last one.
     for i in 0..stripes {
         let s = cursor_at(cards.frame, *cursor);
         let last = i + 1 == stripes;

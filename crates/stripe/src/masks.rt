@@ -112,6 +112,7 @@ impl Stripe {
         ensures { result ≡ mask_number frame.width s (seen_in self.now) }
     {
         let mut mask = 0u8;
+        // Slots are in no list here: c is a slot's number.
         for c in 0..frame.width + 1 {
             if self.is_bad(frame.spot_at(s, c)) {
                 mask |= 1u8 << c;
