@@ -1,4 +1,4 @@
-use Rattle.std.proofs.Common.{◌≡◌, ◌+◌, sym, ap, ◌∙◌, subst₂, arith}
+use Rattle.std.proofs.Common.{◌+◌, sym, ap, ◌∙◌, subst₂, arith}
 use Rattle.shelf.specs.Model.{OwnCard}
 use Rattle.formatting.proofs.Formats.{law_on}
 use Rattle.formatting.proofs.formatting.format_cards.Goals as goal

@@ -1,4 +1,4 @@
-use Rattle.std.proofs.Common.{◌≡◌, [], ◌∷◌, sym, refl, ap, ◌∙◌}
+use Rattle.std.proofs.Common.{[], ◌∷◌, sym, refl, ap, ◌∙◌}
 use Rattle.block.specs.Judging.{setup}
 use Rattle.shelf.specs.Model.{after_all}
 use Rattle.runs.specs.Formats.{card_writes, fresh_write}

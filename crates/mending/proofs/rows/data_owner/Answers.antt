@@ -1,5 +1,5 @@
 use Rattle.std.specs.Prelude.{Err}
-use Rattle.std.proofs.Common.{◌≡◌, ℕ, get_or, ap, ◌∙◌, arith}
+use Rattle.std.proofs.Common.{◌≡◌, ℕ, get_or, ap, ◌∙◌}
 use Rattle.block.specs.declared.shapes.Defect.TheVariants.{Blind}
 use Rattle.stripe.specs.Mend.{owner_in, at}
 use Rattle.stripe.proofs.Rows.{in_front}

@@ -1,4 +1,4 @@
-use Rattle.std.proofs.Common.{◌∙◌, arith}
+use Rattle.std.proofs.Common.{◌∙◌}
 use Rattle.stripe.proofs.Rows.{in_front}
 use Rattle.mending.proofs.Xors.{data_none, data_here, data_other}
 use Rattle.mending.proofs.rows.data_row.Goals as goal
