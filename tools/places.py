@@ -108,7 +108,7 @@ def twins(root):
 
 def loops(root):
     """Loops over a range or by `while`."""
-    yield from lines(root, r"\bfor [a-z_]+ in [^{]*\.\.|\bwhile ")
+    yield from lines(root, r"\bfor [a-z_]+ in [^\[{]*\.\.|\bwhile ")
 
 
 def by_hand(root):

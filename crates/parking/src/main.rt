@@ -207,15 +207,12 @@ fn run(rt: &HostRuntime) -> anyhow::Result<()> {
     let Ok(image) = Image::zero(rt.alloc(), CARDS, BLOCKS) else {
         return Err(anyhow!("no memory for the image"));
     };
-    match Cabinet::format(FaultLayer::over(image), TAG) {
-        Ok(array) => {
-            let mut cabinet = array;
-            let told = session(rt, &mut cabinet);
-            let _cards = cabinet.close();
-            told
-        }
-        Err(_) => Err(anyhow!("the shelf was refused")),
-    }
+    let Ok(mut cabinet) = Cabinet::format(FaultLayer::over(image), TAG) else {
+        return Err(anyhow!("the shelf was refused"));
+    };
+    let told = session(rt, &mut cabinet);
+    let _cards = cabinet.close();
+    told
 }
 
 fn main(rt: HostRuntime) -> anyhow::Result<()> {
