@@ -41,7 +41,8 @@ impl<W: WritableShelf> Counted<W> {
     pub fn into_inner(self) -> W
         ensures { result ≡ self.shelf }
     {
-        self.shelf
+        let Counted { shelf, count: _ } = self;
+        shelf
     }
 }
 
