@@ -42,6 +42,11 @@ def functions(root):
             end = balanced(text, start, "(", ")")
             params = re.sub(r"\s+", " ", text[start + 1:end])
             i = end + 1
+            result = re.compile(r"\s*->\s*").match(text, i)
+            if result:
+                i = result.end()
+                while text[i] not in "{;" and not re.compile(r"\s(requires|ensures|where)\b").match(text, i):
+                    i = balanced(text, i, "[", "]") + 1 if text[i] == "[" else i + 1
             clauses = []
             while True:
                 hit = re.compile(r"\b(requires|ensures\*?)\b[^{]*\{|[;{]").search(text, i)
