@@ -2,6 +2,7 @@
 ghost use Rattle.std.specs.Prelude.{◌≡◌, Bool, false};
 
 use runs::Switch;
+use std::mem;
 
 // Holds the switch while mending is off, and puts its former value back on every way out.
 pub(crate) struct MendingOff<'a> {
@@ -23,7 +24,5 @@ pub(crate) fn turn_off(switch: &mut Switch) -> bool
     ensures was { result ≡ switch.old.mending }
     ensures off { switch.new.mending ≡ false }
 {
-    let was = switch.mending;
-    switch.mending = false;
-    was
+    mem::replace(&mut switch.mending, false)
 }

@@ -51,32 +51,24 @@ fn read_refusals(rt: &impl Abort, array: &mut Bench) -> Result<(), Fail> {
     let mut found = [1u8; 128];
     let mut rebuilt = [1u8; 128];
     let mut rows = blank();
-    assert!(rt;
-        matches!(
-            array.read(4, 0, &on, &mut short, &mut rebuilt, &mut rows),
-            Err(Refusal::Length)
-        )
+    assert_eq!(rt;
+        array.read(4, 0, &on, &mut short, &mut rebuilt, &mut rows),
+        Err(Refusal::Length)
     );
-    assert!(rt;
-        matches!(
-            array.read(4, 0, &on, &mut found, &mut rebuilt, &mut rows),
-            Err(Refusal::Address)
-        )
+    assert_eq!(rt;
+        array.read(4, 0, &on, &mut found, &mut rebuilt, &mut rows),
+        Err(Refusal::Address)
     );
     assert!(rt; found[0] == 1 && rebuilt[127] == 1 && rows[0].slot == 77);
-    assert!(rt;
-        matches!(
-            array.read(2, 5, &on, &mut found, &mut rebuilt, &mut rows),
-            Err(Refusal::OtherOwner)
-        )
+    assert_eq!(rt;
+        array.read(2, 5, &on, &mut found, &mut rebuilt, &mut rows),
+        Err(Refusal::OtherOwner)
     );
     assert!(rt; found[0] == 0 && rebuilt[127] == 0 && rows[0].slot == 0);
     lose_address_0(array)?;
-    assert!(rt;
-        matches!(
-            array.read(0, 5, &on, &mut found, &mut rebuilt, &mut rows),
-            Err(Refusal::Lost)
-        )
+    assert_eq!(rt;
+        array.read(0, 5, &on, &mut found, &mut rebuilt, &mut rows),
+        Err(Refusal::Lost)
     );
     assert_eq!(rt; array.tally(), 0);
     Ok(())
@@ -90,30 +82,22 @@ fn reads_are_refused_by_the_smallest_number(rt: HostRuntime) -> Result<(), Fail>
 fn write_refusals(rt: &impl Abort, array: &mut Bench) -> Result<(), Fail> {
     let mut rows = blank();
     lose_address_0(array)?;
-    assert!(rt;
-        matches!(
-            array.write(4, 0, &[2; 79], Way::Additive, &mut rows),
-            Err(Refusal::Length)
-        )
+    assert_eq!(rt;
+        array.write(4, 0, &[2; 79], Way::Additive, &mut rows),
+        Err(Refusal::Length)
     );
-    assert!(rt;
-        matches!(
-            array.write(4, 0, &[2; 80], Way::Additive, &mut rows),
-            Err(Refusal::Address)
-        )
+    assert_eq!(rt;
+        array.write(4, 0, &[2; 80], Way::Additive, &mut rows),
+        Err(Refusal::Address)
     );
-    assert!(rt;
-        matches!(
-            array.write(0, 0, &[2; 80], Way::Additive, &mut rows),
-            Err(Refusal::NoOwner)
-        )
+    assert_eq!(rt;
+        array.write(0, 0, &[2; 80], Way::Additive, &mut rows),
+        Err(Refusal::NoOwner)
     );
     assert!(rt; rows[0].slot == 77);
-    assert!(rt;
-        matches!(
-            array.write(0, 5, &[2; 80], Way::Subtractive, &mut rows),
-            Err(Refusal::Lost)
-        )
+    assert_eq!(rt;
+        array.write(0, 5, &[2; 80], Way::Subtractive, &mut rows),
+        Err(Refusal::Lost)
     );
     assert!(rt; rows[0].slot == 0);
     assert!(rt;
@@ -142,13 +126,13 @@ fn fit_refusal(array: &mut Bench, slot: u32) -> Option<Refusal> {
 }
 
 fn slot_refusals(rt: &impl Abort, array: &mut Bench) -> Result<(), Fail> {
-    assert!(rt; matches!(array.pull(3), Err(Refusal::Place)));
-    assert!(rt; matches!(fit_refusal(array, 3), Some(Refusal::Place)));
-    assert!(rt; matches!(fit_refusal(array, 0), Some(Refusal::SlotState)));
-    assert!(rt; matches!(array.pull(0), Ok(())));
-    assert!(rt; matches!(array.pull(1), Err(Refusal::SlotState)));
-    assert!(rt; matches!(array.slot_state(0), Ok(SlotState::Out)));
-    assert!(rt; matches!(array.slot_state(3), Err(Refusal::Place)));
+    assert_eq!(rt; array.pull(3), Err(Refusal::Place));
+    assert_eq!(rt; fit_refusal(array, 3), Some(Refusal::Place));
+    assert_eq!(rt; fit_refusal(array, 0), Some(Refusal::SlotState));
+    assert_eq!(rt; array.pull(0), Ok(()));
+    assert_eq!(rt; array.pull(1), Err(Refusal::SlotState));
+    assert_eq!(rt; array.slot_state(0), Ok(SlotState::Out));
+    assert_eq!(rt; array.slot_state(3), Err(Refusal::Place));
     Ok(())
 }
 
@@ -174,10 +158,10 @@ fn rebuild_refusals(rt: &impl Abort, array: &mut Bench) -> Result<(), Fail> {
             Some(refusal)
         }
     };
-    assert!(rt; matches!(many, Err(Refusal::Place)));
+    assert_eq!(rt; many, Err(Refusal::Place));
     assert!(rt; matches!(none, Ok(_)));
-    assert!(rt; matches!(early, Some(Refusal::SlotState)));
-    assert!(rt; matches!(array.slot_state(1), Ok(SlotState::Out)));
+    assert_eq!(rt; early, Some(Refusal::SlotState));
+    assert_eq!(rt; array.slot_state(1), Ok(SlotState::Out));
     Ok(())
 }
 
@@ -191,31 +175,25 @@ fn look_refusals(rt: &impl Abort, array: &mut Bench) -> Result<(), Fail> {
     let mut rows = blank();
     let mut out = [3u8; 160];
     assert!(rt; matches!(array.write(3, 5, &[2; 80], Way::Additive, &mut rows), Ok(_)));
-    assert!(rt;
-        matches!(
-            array.look(4, 3, 0, &mut switch, &mut out),
-            Err(Refusal::Length)
-        )
+    assert_eq!(rt;
+        array.look(4, 3, 0, &mut switch, &mut out),
+        Err(Refusal::Length)
     );
-    assert!(rt;
-        matches!(
-            array.look(3, 2, 0, &mut switch, &mut out),
-            Err(Refusal::Address)
-        )
+    assert_eq!(rt;
+        array.look(3, 2, 0, &mut switch, &mut out),
+        Err(Refusal::Address)
     );
     let mut none = [0u8; 0];
-    assert!(rt;
-        matches!(
-            array.look(4, 0, 0, &mut switch, &mut none),
-            Err(Refusal::Address)
-        )
+    assert_eq!(rt;
+        array.look(4, 0, 0, &mut switch, &mut none),
+        Err(Refusal::Address)
     );
     assert!(rt; out[0] == 3 && out[159] == 3 && switch.mending);
     let answer = array.look(2, 2, 0, &mut switch, &mut out)?;
     assert_eq!(rt; answer.read, 1);
-    assert!(rt; matches!(answer.stopped, Some(Refusal::OtherOwner)));
+    assert_eq!(rt; answer.stopped, Some(Refusal::OtherOwner));
     assert!(rt; out[0] == 0 && out[159] == 0 && switch.mending);
-    assert!(rt; matches!(array.scrub(65537, &mut rows), Err(Refusal::Place)));
+    assert_eq!(rt; array.scrub(65537, &mut rows), Err(Refusal::Place));
     Ok(())
 }
 
@@ -233,7 +211,7 @@ fn a_tag_of_0_hands_the_shelf_back(rt: HostRuntime) -> Result<(), Fail> {
             Err(Fail::new("opened"))
         }
         Err(back) => {
-            assert!(rt; matches!(back.refusal, Refusal::Shape));
+            assert_eq!(rt; back.refusal, Refusal::Shape);
             Ok(())
         },
     }

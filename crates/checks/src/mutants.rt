@@ -30,15 +30,16 @@ fn record(byte: u8, owner: u32) -> Record {
     }
 }
 
+// A data block of payload and version; the first index has owner 41, the second 42.
+fn data_block(at: DataSpot, byte: u8, version: u32) -> [u8; 128] {
+    new_data::<Fletcher>(at, &record(byte, 41 + at.index), version)
+}
+
+fn mended_data(stripe: &Stripe, at: DataSpot) -> [u8; 128] {
+    mended_block::<Fletcher>(stripe, at.data())
+}
+
 impl Pair {
-    fn first_block(self, byte: u8, version: u32) -> [u8; 128] {
-        new_data::<Fletcher>(self.first, &record(byte, 41), version)
-    }
-
-    fn second_block(self, byte: u8, version: u32) -> [u8; 128] {
-        new_data::<Fletcher>(self.second, &record(byte, 42), version)
-    }
-
     fn parity_block(self, byte: u8, first: u32, second: u32) -> [u8; 128] {
         self.first
             .parity()
@@ -58,14 +59,6 @@ impl Pair {
         stripe.decide(self.first.frame, self.first.stripe)
     }
 
-    fn mended_first(self, stripe: &Stripe) -> [u8; 128] {
-        mended_block::<Fletcher>(stripe, self.first.data())
-    }
-
-    fn mended_second(self, stripe: &Stripe) -> [u8; 128] {
-        mended_block::<Fletcher>(stripe, self.second.data())
-    }
-
     // The parity of a write of payload 7 to the first block.
     fn parity_of_7(self, stripe: &Stripe, plan: Plan, bad: bool, version: u32) -> [u8; 128] {
         new_parity::<Fletcher>(stripe, self.first, plan, bad, &record(7, 41), version)
@@ -76,16 +69,16 @@ impl Pair {
 #[test]
 fn parity_recomputed_from_stale_data(rt: HostRuntime) -> Result<(), Fail> {
     let pair = new_pair()?;
-    let stale = pair.first_block(4, 1);
-    let other = pair.second_block(6, 1);
+    let stale = data_block(pair.first, 4, 1);
+    let other = data_block(pair.second, 6, 1);
     let parity = pair.parity_block(5 ^ 6, 2, 1);
     let seen = pair.judged(&stale, &other, &parity);
-    assert!(rt; matches!(pair.decision(&seen), Decision::Only(Role::Data(0))));
-    let right = pair.mended_first(&seen);
+    assert_eq!(rt; pair.decision(&seen), Decision::Only(Role::Data(0)));
+    let right = mended_data(&seen, pair.first);
     assert_eq!(rt; right[0], 5);
     let wrong = mended_block::<Fletcher>(&seen, pair.first.parity());
     let after = pair.judged(&stale, &other, &wrong);
-    assert!(rt; matches!(pair.decision(&after), Decision::Clean));
+    assert_eq!(rt; pair.decision(&after), Decision::Clean);
     assert_eq!(rt; stale[0], 4);
     Ok(())
 }
@@ -95,20 +88,20 @@ fn parity_recomputed_from_stale_data(rt: HostRuntime) -> Result<(), Fail> {
 #[test]
 fn version_taken_from_parity_that_is_behind(rt: HostRuntime) -> Result<(), Fail> {
     let pair = new_pair()?;
-    let kept = pair.first_block(5, 2);
-    let other = pair.second_block(6, 1);
+    let kept = data_block(pair.first, 5, 2);
+    let other = data_block(pair.second, 6, 1);
     let behind = pair.parity_block(4 ^ 6, 1, 1);
     let seen = pair.judged(&kept, &other, &behind);
-    assert!(rt; matches!(pair.decision(&seen), Decision::Only(Role::Parity)));
+    assert_eq!(rt; pair.decision(&seen), Decision::Only(Role::Parity));
     assert_eq!(rt; base_version(&seen, pair.first), 2);
     let right = pair.parity_of_7(&seen, Plan::ByAll, true, 3);
     let found = pair.judged(&kept, &other, &right);
-    assert!(rt; matches!(pair.decision(&found), Decision::Only(Role::Data(0))));
-    let mended = pair.mended_first(&found);
+    assert_eq!(rt; pair.decision(&found), Decision::Only(Role::Data(0)));
+    let mended = mended_data(&found, pair.first);
     assert_eq!(rt; mended[0], 7);
     let wrong = pair.parity_of_7(&seen, Plan::ByAll, true, 2);
     let hidden = pair.judged(&kept, &other, &wrong);
-    assert!(rt; matches!(pair.decision(&hidden), Decision::Clean));
+    assert_eq!(rt; pair.decision(&hidden), Decision::Clean);
     assert_eq!(rt; kept[0], 5);
     Ok(())
 }
@@ -119,15 +112,15 @@ fn version_taken_from_parity_that_is_behind(rt: HostRuntime) -> Result<(), Fail>
 fn rebuild_from_unjudged_blocks(rt: HostRuntime) -> Result<(), Fail> {
     let pair = new_pair()?;
     let lost = [0u8; 128];
-    let stale = pair.second_block(0, 1);
+    let stale = data_block(pair.second, 0, 1);
     let parity = pair.parity_block(5 ^ 6, 2, 2);
     let seen = pair.judged(&lost, &stale, &parity);
-    assert!(rt; matches!(pair.decision(&seen), Decision::Lost));
-    let wrong = pair.mended_first(&seen);
+    assert_eq!(rt; pair.decision(&seen), Decision::Lost);
+    let wrong = mended_data(&seen, pair.first);
     assert_eq!(rt; wrong[0], 3);
     assert_eq!(rt; version(&wrong, 0), 2);
     let after = pair.judged(&wrong, &stale, &parity);
-    assert!(rt; matches!(pair.decision(&after), Decision::Only(Role::Data(1))));
+    assert_eq!(rt; pair.decision(&after), Decision::Only(Role::Data(1)));
     Ok(())
 }
 
@@ -136,20 +129,20 @@ fn rebuild_from_unjudged_blocks(rt: HostRuntime) -> Result<(), Fail> {
 #[test]
 fn all_data_summed_beside_a_stale_block(rt: HostRuntime) -> Result<(), Fail> {
     let pair = new_pair()?;
-    let old = pair.first_block(5, 2);
-    let stale = pair.second_block(3, 1);
+    let old = data_block(pair.first, 5, 2);
+    let stale = data_block(pair.second, 3, 1);
     let parity = pair.parity_block(5 ^ 6, 2, 2);
     let seen = pair.judged(&old, &stale, &parity);
-    assert!(rt; matches!(plan_of(&seen, pair.first), Plan::BySum));
-    let new = pair.first_block(7, 3);
+    assert_eq!(rt; plan_of(&seen, pair.first), Plan::BySum);
+    let new = data_block(pair.first, 7, 3);
     let right = pair.parity_of_7(&seen, Plan::BySum, false, 3);
     let found = pair.judged(&new, &stale, &right);
-    let mended = pair.mended_second(&found);
+    let mended = mended_data(&found, pair.second);
     assert_eq!(rt; mended[0], 6);
     let wrong = pair.parity_of_7(&seen, Plan::ByAll, false, 3);
     let spoilt = pair.judged(&new, &stale, &wrong);
-    assert!(rt; matches!(pair.decision(&spoilt), Decision::Only(Role::Data(1))));
-    let given = pair.mended_second(&spoilt);
+    assert_eq!(rt; pair.decision(&spoilt), Decision::Only(Role::Data(1)));
+    let given = mended_data(&spoilt, pair.second);
     assert_eq!(rt; given[0], 3);
     Ok(())
 }

@@ -99,7 +99,7 @@ impl<W: WritableShelf> FaultLayer<W> {
         if self.table.is_marked(place) {
             return None;
         }
-        fetch(&self.shelf, place.slot, place.block)
+        fetch(&self.shelf, place)
     }
 
     // Flips the bits of the mask in one byte of a place; a blind place stays as it is. No plan is used.
@@ -116,7 +116,7 @@ impl<W: WritableShelf> FaultLayer<W> {
         }
         if let Some(mut bytes) = self.shown(place) {
             bytes[index as usize] ^= mask as u8;
-            store(&mut self.shelf, slot, block, &bytes);
+            store(&mut self.shelf, place, &bytes);
         }
         Ok(())
     }
@@ -132,7 +132,7 @@ impl<W: WritableShelf> FaultLayer<W> {
         if let Some(mut torn) = self.shown(place) {
             let count = kept.min(128) as usize;
             torn[..count].copy_from_slice(&bytes[..count]);
-            store(&mut self.shelf, place.slot, place.block, &torn);
+            store(&mut self.shelf, place, &torn);
         }
     }
 
@@ -145,7 +145,7 @@ impl<W: WritableShelf> FaultLayer<W> {
         ensures blocks { W.blocks self.new.shelf ≡ W.blocks self.old.shelf }
     {
         match found.map(|found| found.plan) {
-            None => store(&mut self.shelf, place.slot, place.block, bytes),
+            None => store(&mut self.shelf, place, bytes),
             Some(Plan::Lose | Plan::Spoil) => {}
             Some(Plan::Tear(kept)) => self.tear(place, bytes, kept),
             Some(Plan::Stray(target)) => {

@@ -6,16 +6,16 @@ ghost use Rattle.stripe.specs.Survey.{setup_on};
 ghost use Rattle.runs.specs.Formats.{fresh_write, card_writes, format_writes};
 ghost use Rattle.runs.specs.Law.{FormatLaw};
 
-use block::Record;
+use block::{Place, Record};
 use checksum::Checksum;
 use shelf::{ReadableShelf, WritableShelf, store};
 use stripe::CardSet;
 
 // Writes one place with zero payload, owner 0 and versions 0.
-fn write_place<W: WritableShelf, C: Checksum>(cards: &mut CardSet<W>, slot: u32, block: u32)
-    requires slot_within { slot ≤ cards.old.frame.width }
-    requires block_within { block < cards.old.frame.blocks }
-    ensures wrote { W.conduct cards.new.shelf ≡ after_all (W.conduct cards.old.shelf) (fresh_write (setup cards.old.frame C.MARK C.meaning) slot block ∷ []) }
+fn write_place<W: WritableShelf, C: Checksum>(cards: &mut CardSet<W>, place: Place)
+    requires slot_within { place.slot ≤ cards.old.frame.width }
+    requires block_within { place.block < cards.old.frame.blocks }
+    ensures wrote { W.conduct cards.new.shelf ≡ after_all (W.conduct cards.old.shelf) (fresh_write (setup cards.old.frame C.MARK C.meaning) place.slot place.block ∷ []) }
     ensures frame { cards.new.frame ≡ cards.old.frame }
     ensures states { cards.new.states ≡ cards.old.states }
 {
@@ -23,9 +23,9 @@ fn write_place<W: WritableShelf, C: Checksum>(cards: &mut CardSet<W>, slot: u32,
         payload: [0; 80],
         owner: 0,
     };
-    let spot = cards.frame.spot_at(block, slot);
+    let spot = cards.frame.spot_at(place.block, place.slot);
     let bytes = spot.make_block::<C>(&blank, &[0; 7]);
-    store(&mut cards.shelf, slot, block, &bytes);
+    store(&mut cards.shelf, place, &bytes);
 }
 
 // Writes every place of a card, in block order.
@@ -36,7 +36,7 @@ fn write_card<W: WritableShelf, C: Checksum>(cards: &mut CardSet<W>, slot: u32)
     ensures states { cards.new.states ≡ cards.old.states }
 {
     for block in 0..cards.frame.blocks {
-        write_place::<W, C>(cards, slot, block);
+        write_place::<W, C>(cards, Place { slot, block });
     }
 }
 

@@ -46,10 +46,7 @@ pub fn data_row(stripe: &Stripe, width: u32, j: u32, payload: &[u8; 80]) -> [u8;
 pub fn owner_in(block: &Verdict) -> u32
     ensures { result ≡ owner_in block.now }
 {
-    match block {
-        Ok(b) => owner(b),
-        Err(_) => 0,
-    }
+    block.as_ref().map_or(0, |b| owner(b))
 }
 
 // Version k of a block; 0 where it is unfit.
@@ -57,10 +54,7 @@ pub fn version_in(block: &Verdict, k: u32) -> u32
     requires { k < 7 }
     ensures { result ≡ version_in block.now k }
 {
-    match block {
-        Ok(b) => version(b, k),
-        Err(_) => 0,
-    }
+    block.as_ref().map_or(0, |b| version(b, k))
 }
 
 // The XOR of the data owners, with another one in place of index j.

@@ -5,9 +5,8 @@ use stripe::{Cause, Condition, Finding};
 // A text as 80 payload bytes, zeros after it.
 pub fn payload_of(text: &[u8]) -> [u8; 80] {
     let mut payload = [0u8; 80];
-    for (to, from) in payload.iter_mut().zip(text) {
-        *to = *from;
-    }
+    let count = text.len().min(80);
+    payload[..count].copy_from_slice(&text[..count]);
     payload
 }
 

@@ -6,12 +6,12 @@ ghost use Rattle.stripe.specs.View.{seen_in, slots_in};
 ghost use Rattle.runs.specs.Done.{PatchBelow};
 ghost use Rattle.runs.specs.Gather.{patch_by, patch_of, patch_writes, patched_slot};
 
-use block::{Frame, Role, Spot};
+use block::{Frame, Place, Role, Spot};
 use checksum::Checksum;
 use mending::mended_block;
 use runs::Patch;
 use shelf::{ReadableShelf, WritableShelf, store};
-use stripe::{Decision, SlotState, Stripe, takes};
+use stripe::{CardSet, Decision, Stripe, takes};
 
 // The patch of stripe s, by what its bad blocks decide: there is one if a block is bad and no other.
 pub fn patch_by<C: Checksum>(
@@ -50,23 +50,25 @@ pub fn patch_of<C: Checksum>(stripe: &Stripe, frame: Frame, s: u32) -> Option<Pa
 
 // Hands a patch of stripe s down, unless its place takes no writes; answers the slot to which it was handed.
 pub fn apply_patch<W: WritableShelf>(
-    shelf: &mut W,
-    states: &[SlotState; 8],
+    cards: &mut CardSet<W>,
     s: u32,
     patch: Option<Patch>,
 ) -> Option<u32>
-    requires few { W.cards shelf.old ≤ 8 }
-    requires within { s < W.blocks shelf.old }
-    requires below { PatchBelow (W.cards shelf.old) patch }
-    ensures slot { result ≡ patched_slot (slots_in states.now) s patch }
-    ensures wrote { W.conduct shelf.new ≡ after_all (W.conduct shelf.old) (patch_writes (slots_in states.now) s patch) }
-    ensures cards { W.cards shelf.new ≡ W.cards shelf.old }
-    ensures blocks { W.blocks shelf.new ≡ W.blocks shelf.old }
+    requires within { s < W.blocks cards.old.shelf }
+    requires below { PatchBelow (W.cards cards.old.shelf) patch }
+    ensures slot { result ≡ patched_slot (slots_in cards.old.states) s patch }
+    ensures wrote { W.conduct cards.new.shelf ≡ after_all (W.conduct cards.old.shelf) (patch_writes (slots_in cards.old.states) s patch) }
+    ensures frame { cards.new.frame ≡ cards.old.frame }
+    ensures states { cards.new.states ≡ cards.old.states }
 {
     let p = patch?;
-    if !takes(states[p.slot as usize], s) {
+    if !takes(cards.states[p.slot as usize], s) {
         return None;
     }
-    store(shelf, p.slot, s, &p.bytes);
+    let place = Place {
+        slot: p.slot,
+        block: s,
+    };
+    store(&mut cards.shelf, place, &p.bytes);
     Some(p.slot)
 }

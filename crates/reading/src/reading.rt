@@ -90,7 +90,7 @@ pub fn read_call<W: WritableShelf, C: Checksum>(
     let sighted = sight::<W, C>(&cards.view(), at);
     let settled = settle(&sighted.gathered, *tally, owner);
     let patch = read_patch(mending, &settled.answer, sighted.gathered.patch);
-    let mended = apply_patch(&mut cards.shelf, &cards.states, at.stripe, patch);
+    let mended = apply_patch(cards, at.stripe, patch);
     fill_findings(at, &sighted.stripe, mended, findings);
     found.copy_from_slice(&settled.found);
     rebuilt.copy_from_slice(&settled.rebuilt);

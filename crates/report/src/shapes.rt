@@ -12,7 +12,7 @@ pub struct StripeReport {
 }
 
 // How many blocks of a card were found in each condition.
-#[derive(Clone, Copy)]
+#[derive(Clone, Copy, Default)]
 pub struct CardTotals {
     pub readable: u32,
     pub blind: u32,
@@ -22,7 +22,7 @@ pub struct CardTotals {
 }
 
 // How many stripes are clean, have one bad block, and have more.
-#[derive(Clone, Copy)]
+#[derive(Clone, Copy, Default)]
 pub struct StripeTotals {
     pub clean: u32,
     pub single: u32,

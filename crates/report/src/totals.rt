@@ -17,13 +17,7 @@ impl CardTotals {
     pub fn none() -> CardTotals
         ensures { result ≡ no_blocks }
     {
-        CardTotals {
-            readable: 0,
-            blind: 0,
-            broken: 0,
-            foreign: 0,
-            behind: 0,
-        }
+        CardTotals::default()
     }
 
     // One more block in this condition; a place that was not looked at does not count.
@@ -65,11 +59,7 @@ impl StripeTotals {
     pub fn none() -> StripeTotals
         ensures { result ≡ no_stripes }
     {
-        StripeTotals {
-            clean: 0,
-            single: 0,
-            lost: 0,
-        }
+        StripeTotals::default()
     }
 
     // One more stripe with this mask.

@@ -7,7 +7,7 @@ ghost use Rattle.runs.specs.Done.{RebuildDone};
 ghost use Rattle.runs.specs.Slots.{is_filling, ok_unless, rebuild_writes, refill, refill_next, rebuild_refused, rebuild_end, rebuild_answer};
 ghost use Rattle.scrubbing.specs.Counts.{rebuilding, RebuildBelow, any_write, recounted_by, refill_from};
 
-use block::Refusal;
+use block::{Place, Refusal};
 use checksum::Checksum;
 use patches::patch_of;
 use runs::{Patch, RebuildCounts};
@@ -30,7 +30,7 @@ fn write_own<W: WritableShelf>(
 {
     match patch {
         Some(p) if p.slot == slot => {
-            store(&mut cards.shelf, slot, s, &p.bytes);
+            store(&mut cards.shelf, Place { slot, block: s }, &p.bytes);
             true
         }
         _ => false,

@@ -57,7 +57,7 @@ fn sweep_one<W: WritableShelf, C: Checksum>(
     cards.view().look_into::<C>(s, stripe);
     let decision = stripe.decide(frame, s);
     let patch = patch_by::<C>(decision, stripe, frame, s);
-    let mended = apply_patch(&mut cards.shelf, &cards.states, s, patch);
+    let mended = apply_patch(cards, s, patch);
     if last {
         findings_all(stripe, frame, s, mended, findings);
     }

@@ -4,7 +4,7 @@
 ghost use Rattle.std.specs.Prelude.{◌≡◌, ℕ, ◌<◌, ◌≤◌, List, [], ◌∷◌, length};
 ghost use Rattle.shelf.specs.Model.{Content, Conduct, OwnCard, AllSized, read_answer, read_buffer, write_answer, writes_taken, after_all, write_of};
 
-use block::{Cell, Refusal};
+use block::{Cell, Place, Refusal};
 
 // What a read answers of a place: its bytes are there, or it is blind.
 #[derive(Clone, Copy, PartialEq, Eq, Debug)]
@@ -68,13 +68,13 @@ pub trait WritableShelf: ReadableShelf {
 }
 
 // What a place holds, of a place that the shelf has.
-pub fn fetch<R: ReadableShelf>(shelf: &R, slot: u32, block: u32) -> Cell
-    requires slot_within { slot < R.cards shelf.now }
-    requires block_within { block < R.blocks shelf.now }
-    ensures { result ≡ R.holds shelf.now slot block }
+pub fn fetch<R: ReadableShelf>(shelf: &R, place: Place) -> Cell
+    requires slot_within { place.slot < R.cards shelf.now }
+    requires block_within { place.block < R.blocks shelf.now }
+    ensures { result ≡ R.holds shelf.now place.slot place.block }
 {
     let mut bytes = [0u8; 128];
-    match shelf.read(slot, block, &mut bytes) {
+    match shelf.read(place.slot, place.block, &mut bytes) {
         Ok(Sight::Present) => Some(bytes),
         Ok(Sight::Blind) => None,
         Err(_) => None,
@@ -82,12 +82,12 @@ pub fn fetch<R: ReadableShelf>(shelf: &R, slot: u32, block: u32) -> Cell
 }
 
 // Hands down the write of a whole block to a place that the shelf has.
-pub fn store<W: WritableShelf>(shelf: &mut W, slot: u32, block: u32, bytes: &[u8; 128])
-    requires slot_within { slot < W.cards shelf.old }
-    requires block_within { block < W.blocks shelf.old }
-    ensures wrote { W.conduct shelf.new ≡ after_all (W.conduct shelf.old) (write_of slot block bytes.now ∷ []) }
+pub fn store<W: WritableShelf>(shelf: &mut W, place: Place, bytes: &[u8; 128])
+    requires slot_within { place.slot < W.cards shelf.old }
+    requires block_within { place.block < W.blocks shelf.old }
+    ensures wrote { W.conduct shelf.new ≡ after_all (W.conduct shelf.old) (write_of place.slot place.block bytes.now ∷ []) }
     ensures cards { W.cards shelf.new ≡ W.cards shelf.old }
     ensures blocks { W.blocks shelf.new ≡ W.blocks shelf.old }
 {
-    let _ = shelf.write(slot, block, bytes);
+    let _ = shelf.write(place.slot, place.block, bytes);
 }

@@ -5,7 +5,7 @@ ghost use Rattle.stripe.specs.View.{slots_in, all_in, takes_at, seen_at, view_of
 
 use crate::cards::{CardSet, CardView};
 use crate::shapes::{SlotState, Stripe};
-use block::{Cell, DataSpot, Defect, Frame, Role, Spot, Verdict};
+use block::{Cell, DataSpot, Defect, Frame, Place, Role, Spot, Verdict};
 use checksum::Checksum;
 use shelf::{ReadableShelf, WritableShelf, fetch};
 
@@ -75,13 +75,13 @@ impl<W: WritableShelf> CardSet<W> {
 
 impl<'a, R: ReadableShelf> CardView<'a, R> {
     // What is seen of a place; no read is sent to a place that its slot's state hides.
-    fn seen(&self, slot: u32, s: u32) -> Cell
-        requires slot_within { slot ≤ self.now.frame.width }
-        requires block_within { s < R.blocks self.now.shelf.now }
-        ensures { result ≡ seen_at (R.holds self.now.shelf.now slot s) (slots_in self.now.states.now slot) s }
+    fn seen(&self, place: Place) -> Cell
+        requires slot_within { place.slot ≤ self.now.frame.width }
+        requires block_within { place.block < R.blocks self.now.shelf.now }
+        ensures { result ≡ seen_at (R.holds self.now.shelf.now place.slot place.block) (slots_in self.now.states.now place.slot) place.block }
     {
-        if takes(self.states[slot as usize], s) {
-            fetch(self.shelf, slot, s)
+        if takes(self.states[place.slot as usize], place.block) {
+            fetch(self.shelf, place)
         } else {
             None
         }
@@ -93,7 +93,11 @@ impl<'a, R: ReadableShelf> CardView<'a, R> {
         requires within { spot.stripe < R.blocks self.now.shelf.now }
         ensures { out.new ≡ view_of (setup self.now.frame C.MARK C.meaning) (R.holds self.now.shelf.now) (slots_in self.now.states.now) spot.stripe spot.role }
     {
-        let cell = self.seen(spot.slot(), spot.stripe);
+        let place = Place {
+            slot: spot.slot(),
+            block: spot.stripe,
+        };
+        let cell = self.seen(place);
         *out = spot.judge::<C>(&cell);
     }
 

@@ -55,10 +55,9 @@ fn leads(block: &Verdict, p: &[u8; 128], j: u32) -> bool
     requires { j < 7 }
     ensures { result ≡ leads_at block.now p.now j }
 {
-    match block {
-        Ok(b) => is_ahead(version(b, 0), version(p, j)),
-        Err(_) => false,
-    }
+    block
+        .as_ref()
+        .is_ok_and(|b| is_ahead(version(b, 0), version(p, j)))
 }
 
 impl Stripe {

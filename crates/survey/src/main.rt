@@ -4,6 +4,7 @@
 mod demo;
 
 use anyhow::anyhow;
+use block::Refusal;
 use checksum::{Fletcher, Turning};
 use image::ImageView;
 use report::print_report;
@@ -54,7 +55,7 @@ fn print_survey(rt: &HostRuntime, told: &Told, bytes: &[u8]) -> anyhow::Result<(
     let stripes = told.stripes;
     let tag = told.tag;
     if tag == 0 {
-        return Err(anyhow!("refused by 2: the tag is never 0"));
+        return Err(anyhow!("refused by {}: the tag is never 0", Refusal::Shape));
     }
     match ImageView::open(cards, stripes, bytes) {
         Ok(view) => match told.sum {

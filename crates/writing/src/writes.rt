@@ -29,7 +29,7 @@ fn send<W: WritableShelf>(cards: &mut CardSet<W>, spot: Spot, bytes: [u8; 128])
         slot: spot.slot(),
         bytes,
     };
-    apply_patch(&mut cards.shelf, &cards.states, spot.stripe, Some(patch));
+    apply_patch(cards, spot.stripe, Some(patch));
 }
 
 // Hands the two blocks of a write down, the data block first.

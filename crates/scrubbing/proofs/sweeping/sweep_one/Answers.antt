@@ -1,4 +1,4 @@
-use Rattle.std.proofs.Common.{◌≡◌, refl, [], sym, ap, ◌∙◌, ap₂, arith}
+use Rattle.std.proofs.Common.{◌≡◌, [], sym, ap, ◌∙◌, ap₂, arith}
 use Rattle.std.proofs.lemmas.Bool.{cond-true, cond-false}
 use Rattle.block.specs.Judging.{setup}
 use Rattle.shelf.specs.Model.{after_all}
@@ -27,7 +27,9 @@ returns g c =
     let m = c.apply_patch-mended.ensures in
     let p = c.patch_by-patch.ensures.is ∙ ap₂ (patch_by E s) V d in
     record {
-      is = c.swept_by.ensures ∙ ap (swept_by E.D σ s) d;
+      is =
+          c.swept_by.ensures ∙ ap₂ (λ f t. swept_by f.width (slots_in t) s c.decide-decision.result) m.frame m.states
+          ∙ ap (swept_by E.D σ s) d;
       wrote = m.wrote ∙ ap (λ x. after_all k (patch_writes σ s x)) p;
       findings = elim c.if-last.branch [
         | then-last w ↦
@@ -35,6 +37,6 @@ returns g c =
             ∙ sym (cond-true _ _ _ w.if-last.true)
         | else-last w ↦ w.findings-is ∙ sym (cond-false _ _ _ w.if-last.false)
       ];
-      frame = refl;
-      states = refl;
+      frame = m.frame;
+      states = m.states;
     }
