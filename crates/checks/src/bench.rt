@@ -13,7 +13,7 @@ use shelf::{ReadableShelf, Sight, WritableShelf};
 use std::alloc::Global;
 use std::process::Abort;
 use std::test::Fail;
-use stripe::{Condition, Finding, SlotState};
+use stripe::{Condition, Finding, Layer, SlotState};
 
 pub type Bench = Array<FaultLayer<Image>, Fletcher>;
 
@@ -57,7 +57,7 @@ pub fn after(steps: &[Step]) -> Scene<'_> {
 // What is left of the bench: the image's bytes, the rows in use, what the layer shows of each place, the tally, the slots,
 // and the stripe that a scrub looked at.
 #[derive(Clone, Copy, PartialEq, Eq)]
-pub struct Left {
+struct Left {
     bytes: [u8; 774],
     rows: u32,
     cells: [Cell; 6],
@@ -282,10 +282,21 @@ pub fn changes_nothing<R: Abort, F: Fn(&mut Bench) -> Result<(), Fail>>(
     Ok(())
 }
 
-// The findings name their slots and the stripe, say these conditions of the three slots, and no mending.
+fn layer_of(condition: Condition) -> Option<Layer> {
+    match condition {
+        Condition::Bad(cause) => Some(cause.layer()),
+        Condition::NotLooked | Condition::Readable => None,
+    }
+}
+
+// The findings name their slots and the stripe, say these conditions of the three slots with their layers, and no mending.
 pub fn are_filled(rows: &[Finding; 8], stripe: u32, seen: [Condition; 3]) -> bool {
     rows.iter().enumerate().all(|(slot, row)| {
         let condition = seen.get(slot).copied().unwrap_or(Condition::NotLooked);
-        row.slot == slot as u32 && row.block == stripe && row.condition == condition && !row.mended
+        row.slot == slot as u32
+            && row.block == stripe
+            && row.condition == condition
+            && row.layer == layer_of(condition)
+            && !row.mended
     })
 }

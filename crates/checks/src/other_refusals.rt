@@ -7,7 +7,6 @@ use checksum::Fletcher;
 use faults::Plan;
 use image::Image;
 use runs::{LookAnswer, Switch};
-use shelf::{ReadableShelf, WritableShelf};
 use std::alloc::Global;
 use std::process::Abort;
 use std::test::Fail;
@@ -173,6 +172,22 @@ fn scrubs_of_too_many_stripes(rt: HostRuntime) -> Result<(), Fail> {
     Ok(())
 }
 
+fn most_stripes(rt: &impl Abort, array: &mut Bench) -> Result<(), Fail> {
+    assert_eq!(rt; array.scrub(65536, &mut blank())?.looked, 65536);
+    Ok(())
+}
+
+// The cursor comes back to where it was.
+#[test]
+fn a_scrub_of_the_most_stripes(rt: HostRuntime) -> Result<(), Fail> {
+    changes_nothing(
+        &rt,
+        rt.alloc(),
+        after(WHOLE),
+        |array| most_stripes(&rt, array),
+    )
+}
+
 // A job for a slot of another array, of eight cards.
 fn foreign_job(heap: Global, slot: u32) -> Result<RebuildJob, Fail> {
     let image = Image::zero(heap, 8, 1)?;
@@ -284,6 +299,15 @@ struct Stretch {
     refusal: Refusal,
 }
 
+fn stretch_of(first: u32, count: u32, length: usize, refusal: Refusal) -> Stretch {
+    Stretch {
+        first,
+        count,
+        length,
+        refusal,
+    }
+}
+
 fn look_refused(
     rt: &impl Abort,
     array: &mut Bench,
@@ -304,86 +328,21 @@ fn look_refused(
 fn looks_refused(rt: HostRuntime) -> Result<(), Fail> {
     let cases = [
         // A buffer of another length.
-        Stretch {
-            first: 0,
-            count: 1,
-            length: 79,
-            refusal: Refusal::Length,
-        },
-        Stretch {
-            first: 0,
-            count: 1,
-            length: 81,
-            refusal: Refusal::Length,
-        },
-        Stretch {
-            first: 0,
-            count: 2,
-            length: 80,
-            refusal: Refusal::Length,
-        },
-        Stretch {
-            first: 0,
-            count: 0,
-            length: 1,
-            refusal: Refusal::Length,
-        },
+        stretch_of(0, 1, 79, Refusal::Length),
+        stretch_of(0, 1, 81, Refusal::Length),
+        stretch_of(0, 2, 80, Refusal::Length),
+        stretch_of(0, 0, 1, Refusal::Length),
         // A first address or an end beyond the array.
-        Stretch {
-            first: 4,
-            count: 0,
-            length: 0,
-            refusal: Refusal::Address,
-        },
-        Stretch {
-            first: 4,
-            count: 1,
-            length: 80,
-            refusal: Refusal::Address,
-        },
-        Stretch {
-            first: 3,
-            count: 2,
-            length: 160,
-            refusal: Refusal::Address,
-        },
-        Stretch {
-            first: 4294967295,
-            count: 0,
-            length: 0,
-            refusal: Refusal::Address,
-        },
-        Stretch {
-            first: 4294967295,
-            count: 1,
-            length: 80,
-            refusal: Refusal::Address,
-        },
+        stretch_of(4, 0, 0, Refusal::Address),
+        stretch_of(4, 1, 80, Refusal::Address),
+        stretch_of(3, 2, 160, Refusal::Address),
+        stretch_of(4294967295, 0, 0, Refusal::Address),
+        stretch_of(4294967295, 1, 80, Refusal::Address),
         // 1 and 3.
-        Stretch {
-            first: 4,
-            count: 0,
-            length: 80,
-            refusal: Refusal::Length,
-        },
-        Stretch {
-            first: 4,
-            count: 1,
-            length: 79,
-            refusal: Refusal::Length,
-        },
-        Stretch {
-            first: 3,
-            count: 2,
-            length: 80,
-            refusal: Refusal::Length,
-        },
-        Stretch {
-            first: 0,
-            count: 4294967295,
-            length: 80,
-            refusal: Refusal::Length,
-        },
+        stretch_of(4, 0, 80, Refusal::Length),
+        stretch_of(4, 1, 79, Refusal::Length),
+        stretch_of(3, 2, 80, Refusal::Length),
+        stretch_of(0, 4294967295, 80, Refusal::Length),
     ];
     for case in &cases {
         for mending in [false, true] {

@@ -3,7 +3,6 @@
 use crate::bench::{Bench, Scene, Step, TOP, after, are_filled, blank, changes_nothing};
 use block::Refusal;
 use runs::{Switch, Way};
-use shelf::{ReadableShelf, WritableShelf};
 use std::alloc::Global;
 use std::process::Abort;
 use std::test::Fail;
@@ -37,6 +36,24 @@ struct EarlyRead<'a> {
     refusal: Refusal,
 }
 
+fn early_read(
+    steps: &[Step],
+    found: usize,
+    rebuilt: usize,
+    address: u32,
+    owner: u32,
+    refusal: Refusal,
+) -> EarlyRead<'_> {
+    EarlyRead {
+        steps,
+        found,
+        rebuilt,
+        address,
+        owner,
+        refusal,
+    }
+}
+
 fn read_early(rt: &impl Abort, array: &mut Bench, case: EarlyRead) -> Result<(), Fail> {
     let mut found = [1u8; 129];
     let mut rebuilt = [2u8; 129];
@@ -60,131 +77,26 @@ fn read_early(rt: &impl Abort, array: &mut Bench, case: EarlyRead) -> Result<(),
 fn reads_refused_before_looking(rt: HostRuntime) -> Result<(), Fail> {
     let cases = [
         // A buffer that is not 128 bytes long.
-        EarlyRead {
-            steps: WHOLE,
-            found: 127,
-            rebuilt: 128,
-            address: 0,
-            owner: 41,
-            refusal: Refusal::Length,
-        },
-        EarlyRead {
-            steps: WHOLE,
-            found: 129,
-            rebuilt: 128,
-            address: 0,
-            owner: 41,
-            refusal: Refusal::Length,
-        },
-        EarlyRead {
-            steps: WHOLE,
-            found: 0,
-            rebuilt: 128,
-            address: 0,
-            owner: 41,
-            refusal: Refusal::Length,
-        },
-        EarlyRead {
-            steps: WHOLE,
-            found: 128,
-            rebuilt: 127,
-            address: 0,
-            owner: 41,
-            refusal: Refusal::Length,
-        },
-        EarlyRead {
-            steps: WHOLE,
-            found: 128,
-            rebuilt: 129,
-            address: 0,
-            owner: 41,
-            refusal: Refusal::Length,
-        },
-        EarlyRead {
-            steps: WHOLE,
-            found: 127,
-            rebuilt: 129,
-            address: 0,
-            owner: 41,
-            refusal: Refusal::Length,
-        },
+        early_read(WHOLE, 127, 128, 0, 41, Refusal::Length),
+        early_read(WHOLE, 129, 128, 0, 41, Refusal::Length),
+        early_read(WHOLE, 0, 128, 0, 41, Refusal::Length),
+        early_read(WHOLE, 128, 127, 0, 41, Refusal::Length),
+        early_read(WHOLE, 128, 129, 0, 41, Refusal::Length),
+        early_read(WHOLE, 127, 129, 0, 41, Refusal::Length),
         // An address beyond the array.
-        EarlyRead {
-            steps: WHOLE,
-            found: 128,
-            rebuilt: 128,
-            address: 4,
-            owner: 41,
-            refusal: Refusal::Address,
-        },
-        EarlyRead {
-            steps: WHOLE,
-            found: 128,
-            rebuilt: 128,
-            address: 4294967295,
-            owner: 0,
-            refusal: Refusal::Address,
-        },
+        early_read(WHOLE, 128, 128, 4, 41, Refusal::Address),
+        early_read(WHOLE, 128, 128, 4294967295, 0, Refusal::Address),
         // 1 and 3.
-        EarlyRead {
-            steps: WHOLE,
-            found: 127,
-            rebuilt: 128,
-            address: 4,
-            owner: 41,
-            refusal: Refusal::Length,
-        },
-        EarlyRead {
-            steps: WHOLE,
-            found: 128,
-            rebuilt: 129,
-            address: 4,
-            owner: 41,
-            refusal: Refusal::Length,
-        },
+        early_read(WHOLE, 127, 128, 4, 41, Refusal::Length),
+        early_read(WHOLE, 128, 129, 4, 41, Refusal::Length),
         // 1 and 8.
-        EarlyRead {
-            steps: LOST_0,
-            found: 127,
-            rebuilt: 128,
-            address: 0,
-            owner: 41,
-            refusal: Refusal::Length,
-        },
-        EarlyRead {
-            steps: LOST_0,
-            found: 128,
-            rebuilt: 127,
-            address: 0,
-            owner: 41,
-            refusal: Refusal::Length,
-        },
+        early_read(LOST_0, 127, 128, 0, 41, Refusal::Length),
+        early_read(LOST_0, 128, 127, 0, 41, Refusal::Length),
         // 1 and 9.
-        EarlyRead {
-            steps: WHOLE,
-            found: 127,
-            rebuilt: 128,
-            address: 0,
-            owner: 5,
-            refusal: Refusal::Length,
-        },
-        EarlyRead {
-            steps: WHOLE,
-            found: 128,
-            rebuilt: 127,
-            address: 0,
-            owner: 5,
-            refusal: Refusal::Length,
-        },
+        early_read(WHOLE, 127, 128, 0, 5, Refusal::Length),
+        early_read(WHOLE, 128, 127, 0, 5, Refusal::Length),
         // 1, 8 and 9.
-        EarlyRead {
-            steps: LOST_0,
-            found: 127,
-            rebuilt: 128,
-            address: 0,
-            owner: 5,
-            refusal: Refusal::Length,
-        },
+        early_read(LOST_0, 127, 128, 0, 5, Refusal::Length),
     ];
     for case in &cases {
         changes_nothing(
@@ -197,195 +109,103 @@ fn reads_refused_before_looking(rt: HostRuntime) -> Result<(), Fail> {
     Ok(())
 }
 
-// A read of an address of 128 bytes for an owner, refused after looking, and what it then says of the three slots.
+// A read of address 0 that is refused after looking, and what it then says of the three slots.
 #[derive(Clone, Copy)]
 struct LateRead<'a> {
     steps: &'a [Step],
-    owner: u32,
-    refusal: Refusal,
     seen: [Condition; 3],
 }
 
-// The read of address 0.
+fn late_read(steps: &[Step], seen: [Condition; 3]) -> LateRead<'_> {
+    LateRead { steps, seen }
+}
+
 fn read_late(
     rt: &impl Abort,
     array: &mut Bench,
     mending: bool,
-    case: LateRead,
+    owner: u32,
+    refusal: Refusal,
+    seen: [Condition; 3],
 ) -> Result<(), Fail> {
     let mut found = [1u8; 128];
     let mut rebuilt = [2u8; 128];
     let mut rows = blank();
-    let answer = array.read(
-        0,
-        case.owner,
-        &Switch { mending },
-        &mut found,
-        &mut rebuilt,
-        &mut rows,
-    );
-    assert_eq!(rt; answer, Err(case.refusal));
+    let switch = Switch { mending };
+    let answer = array.read(0, owner, &switch, &mut found, &mut rebuilt, &mut rows);
+    assert_eq!(rt; answer, Err(refusal));
     assert!(rt; found == [0; 128]);
     assert!(rt; rebuilt == [0; 128]);
-    assert!(rt; are_filled(&rows, 0, case.seen));
+    assert!(rt; are_filled(&rows, 0, seen));
     Ok(())
 }
 
-fn late_reads(rt: &impl Abort, heap: Global, cases: &[LateRead]) -> Result<(), Fail> {
+// Reads for an owner, with the mending switch off and on.
+fn late_reads(
+    rt: &impl Abort,
+    heap: Global,
+    owner: u32,
+    refusal: Refusal,
+    cases: &[LateRead],
+) -> Result<(), Fail> {
     for case in cases {
         for mending in [false, true] {
             changes_nothing(rt, heap, after(case.steps), |array| {
-                read_late(rt, array, mending, *case)
+                read_late(rt, array, mending, owner, refusal, case.seen)
             })?;
         }
     }
     Ok(())
 }
 
+// Address 0 is lost.
 #[test]
 fn reads_of_lost_blocks(rt: HostRuntime) -> Result<(), Fail> {
-    late_reads(
-        &rt,
-        rt.alloc(),
-        &[
-            // 8.
-            LateRead {
-                steps: LOST_0,
-                owner: 41,
-                refusal: Refusal::Lost,
-                seen: [BLIND, BLIND, SEEN],
-            },
-            LateRead {
-                steps: &[Step::Blind(0, 0), Step::Blind(2, 0)],
-                owner: 41,
-                refusal: Refusal::Lost,
-                seen: [BLIND, SEEN, BLIND],
-            },
-            LateRead {
-                steps: &[Step::Flip(0, 0), Step::Flip(2, 0)],
-                owner: 41,
-                refusal: Refusal::Lost,
-                seen: [BROKEN, SEEN, BROKEN],
-            },
-            LateRead {
-                steps: &[Step::Flip(0, 0), Step::Blind(1, 0)],
-                owner: 41,
-                refusal: Refusal::Lost,
-                seen: [BROKEN, BLIND, SEEN],
-            },
-            LateRead {
-                steps: &[Step::Pull(0), Step::Flip(1, 0)],
-                owner: 41,
-                refusal: Refusal::Lost,
-                seen: [BLIND, BROKEN, SEEN],
-            },
-            // 8 and 9.
-            LateRead {
-                steps: LOST_0,
-                owner: 5,
-                refusal: Refusal::Lost,
-                seen: [BLIND, BLIND, SEEN],
-            },
-            LateRead {
-                steps: &[Step::Blind(0, 0), Step::Blind(2, 0)],
-                owner: 5,
-                refusal: Refusal::Lost,
-                seen: [BLIND, SEEN, BLIND],
-            },
-            LateRead {
-                steps: &[Step::Flip(0, 0), Step::Flip(2, 0)],
-                owner: 5,
-                refusal: Refusal::Lost,
-                seen: [BROKEN, SEEN, BROKEN],
-            },
-            LateRead {
-                steps: &[Step::Flip(0, 0), Step::Blind(1, 0)],
-                owner: 5,
-                refusal: Refusal::Lost,
-                seen: [BROKEN, BLIND, SEEN],
-            },
-            LateRead {
-                steps: &[Step::Pull(0), Step::Flip(1, 0)],
-                owner: 5,
-                refusal: Refusal::Lost,
-                seen: [BLIND, BROKEN, SEEN],
-            },
-        ],
-    )
+    let cases = [
+        late_read(LOST_0, [BLIND, BLIND, SEEN]),
+        late_read(
+            &[Step::Blind(0, 0), Step::Blind(2, 0)],
+            [BLIND, SEEN, BLIND],
+        ),
+        late_read(
+            &[Step::Flip(0, 0), Step::Flip(2, 0)],
+            [BROKEN, SEEN, BROKEN],
+        ),
+        late_read(
+            &[Step::Flip(0, 0), Step::Blind(1, 0)],
+            [BROKEN, BLIND, SEEN],
+        ),
+        late_read(&[Step::Pull(0), Step::Flip(1, 0)], [BLIND, BROKEN, SEEN]),
+    ];
+    late_reads(&rt, rt.alloc(), 41, Refusal::Lost, &cases)?;
+    // 8 and 9: the owner is another one.
+    late_reads(&rt, rt.alloc(), 5, Refusal::Lost, &cases)
 }
 
 #[test]
 fn reads_for_another_owner(rt: HostRuntime) -> Result<(), Fail> {
-    late_reads(
-        &rt,
-        rt.alloc(),
-        &[
-            // Block and parity readable and level: no more is looked at.
-            LateRead {
-                steps: WHOLE,
-                owner: 5,
-                refusal: Refusal::OtherOwner,
-                seen: [SEEN, UNSEEN, SEEN],
-            },
-            LateRead {
-                steps: WHOLE,
-                owner: 0,
-                refusal: Refusal::OtherOwner,
-                seen: [SEEN, UNSEEN, SEEN],
-            },
-            LateRead {
-                steps: &[Step::Blind(1, 0)],
-                owner: 5,
-                refusal: Refusal::OtherOwner,
-                seen: [SEEN, UNSEEN, SEEN],
-            },
-            // The block would be rebuilt; it is not mended.
-            LateRead {
-                steps: &[Step::Blind(0, 0)],
-                owner: 5,
-                refusal: Refusal::OtherOwner,
-                seen: [BLIND, SEEN, SEEN],
-            },
-            LateRead {
-                steps: &[Step::Flip(0, 0)],
-                owner: 5,
-                refusal: Refusal::OtherOwner,
-                seen: [BROKEN, SEEN, SEEN],
-            },
-            LateRead {
-                steps: &[Step::Pull(0)],
-                owner: 5,
-                refusal: Refusal::OtherOwner,
-                seen: [BLIND, SEEN, SEEN],
-            },
-            // The block is found, and parity is the only bad one; it is not mended.
-            LateRead {
-                steps: &[Step::Blind(2, 0)],
-                owner: 5,
-                refusal: Refusal::OtherOwner,
-                seen: [SEEN, SEEN, BLIND],
-            },
-            LateRead {
-                steps: &[Step::Flip(2, 0)],
-                owner: 5,
-                refusal: Refusal::OtherOwner,
-                seen: [SEEN, SEEN, BROKEN],
-            },
-            LateRead {
-                steps: &[Step::Pull(2)],
-                owner: 5,
-                refusal: Refusal::OtherOwner,
-                seen: [SEEN, SEEN, BLIND],
-            },
-            // The block is found beside two bad ones.
-            LateRead {
-                steps: &[Step::Blind(1, 0), Step::Flip(2, 0)],
-                owner: 5,
-                refusal: Refusal::OtherOwner,
-                seen: [SEEN, BLIND, BROKEN],
-            },
-        ],
-    )
+    let cases = [
+        // Block and parity are readable and level: no more is looked at.
+        late_read(WHOLE, [SEEN, UNSEEN, SEEN]),
+        late_read(&[Step::Blind(1, 0)], [SEEN, UNSEEN, SEEN]),
+        // The block would be rebuilt; it is not mended.
+        late_read(&[Step::Blind(0, 0)], [BLIND, SEEN, SEEN]),
+        late_read(&[Step::Flip(0, 0)], [BROKEN, SEEN, SEEN]),
+        late_read(&[Step::Pull(0)], [BLIND, SEEN, SEEN]),
+        // The block is found, and parity is the only bad one; it is not mended.
+        late_read(&[Step::Blind(2, 0)], [SEEN, SEEN, BLIND]),
+        late_read(&[Step::Flip(2, 0)], [SEEN, SEEN, BROKEN]),
+        late_read(&[Step::Pull(2)], [SEEN, SEEN, BLIND]),
+        // The block is found beside two bad ones.
+        late_read(
+            &[Step::Blind(1, 0), Step::Flip(2, 0)],
+            [SEEN, BLIND, BROKEN],
+        ),
+    ];
+    for owner in [0, 5, 42] {
+        late_reads(&rt, rt.alloc(), owner, Refusal::OtherOwner, &cases)?;
+    }
+    Ok(())
 }
 
 // A write that is refused before it looks, of a payload of a length.
@@ -396,6 +216,22 @@ struct EarlyWrite<'a> {
     address: u32,
     owner: u32,
     refusal: Refusal,
+}
+
+fn early_write(
+    steps: &[Step],
+    length: usize,
+    address: u32,
+    owner: u32,
+    refusal: Refusal,
+) -> EarlyWrite<'_> {
+    EarlyWrite {
+        steps,
+        length,
+        address,
+        owner,
+        refusal,
+    }
 }
 
 fn write_early(rt: &impl Abort, array: &mut Bench, way: Way, case: EarlyWrite) -> Result<(), Fail> {
@@ -412,178 +248,40 @@ fn write_early(rt: &impl Abort, array: &mut Bench, way: Way, case: EarlyWrite) -
 fn writes_refused_before_looking(rt: HostRuntime) -> Result<(), Fail> {
     let cases = [
         // A payload that is not 80 bytes long.
-        EarlyWrite {
-            steps: WHOLE,
-            length: 79,
-            address: 0,
-            owner: 41,
-            refusal: Refusal::Length,
-        },
-        EarlyWrite {
-            steps: WHOLE,
-            length: 81,
-            address: 0,
-            owner: 41,
-            refusal: Refusal::Length,
-        },
-        EarlyWrite {
-            steps: WHOLE,
-            length: 0,
-            address: 0,
-            owner: 41,
-            refusal: Refusal::Length,
-        },
+        early_write(WHOLE, 79, 0, 41, Refusal::Length),
+        early_write(WHOLE, 81, 0, 41, Refusal::Length),
+        early_write(WHOLE, 0, 0, 41, Refusal::Length),
         // An address beyond the array.
-        EarlyWrite {
-            steps: WHOLE,
-            length: 80,
-            address: 4,
-            owner: 41,
-            refusal: Refusal::Address,
-        },
-        EarlyWrite {
-            steps: WHOLE,
-            length: 80,
-            address: 4294967295,
-            owner: 41,
-            refusal: Refusal::Address,
-        },
+        early_write(WHOLE, 80, 4, 41, Refusal::Address),
+        early_write(WHOLE, 80, 4294967295, 41, Refusal::Address),
         // Owner 0.
-        EarlyWrite {
-            steps: WHOLE,
-            length: 80,
-            address: 0,
-            owner: 0,
-            refusal: Refusal::NoOwner,
-        },
+        early_write(WHOLE, 80, 0, 0, Refusal::NoOwner),
         // 1 and 3.
-        EarlyWrite {
-            steps: WHOLE,
-            length: 79,
-            address: 4,
-            owner: 41,
-            refusal: Refusal::Length,
-        },
-        EarlyWrite {
-            steps: WHOLE,
-            length: 81,
-            address: 4,
-            owner: 41,
-            refusal: Refusal::Length,
-        },
+        early_write(WHOLE, 79, 4, 41, Refusal::Length),
+        early_write(WHOLE, 81, 4, 41, Refusal::Length),
         // 1 and 5.
-        EarlyWrite {
-            steps: WHOLE,
-            length: 79,
-            address: 0,
-            owner: 0,
-            refusal: Refusal::Length,
-        },
-        EarlyWrite {
-            steps: WHOLE,
-            length: 81,
-            address: 0,
-            owner: 0,
-            refusal: Refusal::Length,
-        },
+        early_write(WHOLE, 79, 0, 0, Refusal::Length),
+        early_write(WHOLE, 81, 0, 0, Refusal::Length),
         // 1 and 8.
-        EarlyWrite {
-            steps: LOST_0,
-            length: 79,
-            address: 0,
-            owner: 41,
-            refusal: Refusal::Length,
-        },
-        EarlyWrite {
-            steps: LOST_0,
-            length: 81,
-            address: 0,
-            owner: 41,
-            refusal: Refusal::Length,
-        },
+        early_write(LOST_0, 79, 0, 41, Refusal::Length),
+        early_write(LOST_0, 81, 0, 41, Refusal::Length),
         // 1 and 10.
-        EarlyWrite {
-            steps: WHOLE,
-            length: 79,
-            address: 2,
-            owner: 41,
-            refusal: Refusal::Length,
-        },
-        EarlyWrite {
-            steps: WHOLE,
-            length: 81,
-            address: 2,
-            owner: 41,
-            refusal: Refusal::Length,
-        },
+        early_write(WHOLE, 79, 2, 41, Refusal::Length),
+        early_write(WHOLE, 81, 2, 41, Refusal::Length),
         // 3 and 5.
-        EarlyWrite {
-            steps: WHOLE,
-            length: 80,
-            address: 4,
-            owner: 0,
-            refusal: Refusal::Address,
-        },
-        EarlyWrite {
-            steps: WHOLE,
-            length: 80,
-            address: 4294967295,
-            owner: 0,
-            refusal: Refusal::Address,
-        },
+        early_write(WHOLE, 80, 4, 0, Refusal::Address),
+        early_write(WHOLE, 80, 4294967295, 0, Refusal::Address),
         // 5 and 8.
-        EarlyWrite {
-            steps: LOST_0,
-            length: 80,
-            address: 0,
-            owner: 0,
-            refusal: Refusal::NoOwner,
-        },
+        early_write(LOST_0, 80, 0, 0, Refusal::NoOwner),
         // 5 and 10.
-        EarlyWrite {
-            steps: WHOLE,
-            length: 80,
-            address: 2,
-            owner: 0,
-            refusal: Refusal::NoOwner,
-        },
+        early_write(WHOLE, 80, 2, 0, Refusal::NoOwner),
         // A plan to lose the write is not used up.
-        EarlyWrite {
-            steps: &[Step::Lose(0, 0)],
-            length: 79,
-            address: 0,
-            owner: 41,
-            refusal: Refusal::Length,
-        },
-        EarlyWrite {
-            steps: &[Step::Lose(0, 0)],
-            length: 80,
-            address: 0,
-            owner: 0,
-            refusal: Refusal::NoOwner,
-        },
+        early_write(&[Step::Lose(0, 0)], 79, 0, 41, Refusal::Length),
+        early_write(&[Step::Lose(0, 0)], 80, 0, 0, Refusal::NoOwner),
         // More than two.
-        EarlyWrite {
-            steps: WHOLE,
-            length: 79,
-            address: 4,
-            owner: 0,
-            refusal: Refusal::Length,
-        },
-        EarlyWrite {
-            steps: LOST_2,
-            length: 79,
-            address: 2,
-            owner: 0,
-            refusal: Refusal::Length,
-        },
-        EarlyWrite {
-            steps: LOST_2,
-            length: 80,
-            address: 2,
-            owner: 0,
-            refusal: Refusal::NoOwner,
-        },
+        early_write(WHOLE, 79, 4, 0, Refusal::Length),
+        early_write(LOST_2, 79, 2, 0, Refusal::Length),
+        early_write(LOST_2, 80, 2, 0, Refusal::NoOwner),
     ];
     for case in &cases {
         for way in [Way::Subtractive, Way::Additive] {

@@ -23,78 +23,34 @@ struct Named {
     refusal: Refusal,
 }
 
+fn named_place(length: usize, slot: u32, block: u32, refusal: Refusal) -> Named {
+    Named {
+        length,
+        slot,
+        block,
+        refusal,
+    }
+}
+
 // Places and lengths of three cards with two blocks each that are refused.
-const NAMED: [Named; 11] = [
-    // Another length.
-    Named {
-        length: 0,
-        slot: 0,
-        block: 0,
-        refusal: Refusal::Length,
-    },
-    Named {
-        length: 127,
-        slot: 0,
-        block: 0,
-        refusal: Refusal::Length,
-    },
-    Named {
-        length: 129,
-        slot: 2,
-        block: 1,
-        refusal: Refusal::Length,
-    },
-    // No such place.
-    Named {
-        length: 128,
-        slot: 3,
-        block: 0,
-        refusal: Refusal::Place,
-    },
-    Named {
-        length: 128,
-        slot: 0,
-        block: 2,
-        refusal: Refusal::Place,
-    },
-    Named {
-        length: 128,
-        slot: 4294967295,
-        block: 0,
-        refusal: Refusal::Place,
-    },
-    Named {
-        length: 128,
-        slot: 0,
-        block: 4294967295,
-        refusal: Refusal::Place,
-    },
-    // 1 and 4.
-    Named {
-        length: 127,
-        slot: 3,
-        block: 0,
-        refusal: Refusal::Length,
-    },
-    Named {
-        length: 129,
-        slot: 0,
-        block: 2,
-        refusal: Refusal::Length,
-    },
-    Named {
-        length: 0,
-        slot: 3,
-        block: 2,
-        refusal: Refusal::Length,
-    },
-    Named {
-        length: 129,
-        slot: 4294967295,
-        block: 4294967295,
-        refusal: Refusal::Length,
-    },
-];
+fn named_cases() -> [Named; 11] {
+    [
+        // Another length.
+        named_place(0, 0, 0, Refusal::Length),
+        named_place(127, 0, 0, Refusal::Length),
+        named_place(129, 2, 1, Refusal::Length),
+        // No such place.
+        named_place(128, 3, 0, Refusal::Place),
+        named_place(128, 0, 2, Refusal::Place),
+        named_place(128, 4294967295, 0, Refusal::Place),
+        named_place(128, 0, 4294967295, Refusal::Place),
+        // 1 and 4.
+        named_place(127, 3, 0, Refusal::Length),
+        named_place(129, 0, 2, Refusal::Length),
+        named_place(0, 3, 2, Refusal::Length),
+        named_place(129, 4294967295, 4294967295, Refusal::Length),
+    ]
+}
 
 fn read_refused<R: ReadableShelf>(rt: &impl Abort, shelf: &R, case: Named) -> Result<(), Fail> {
     let mut buf = [6u8; 129];
@@ -106,7 +62,7 @@ fn read_refused<R: ReadableShelf>(rt: &impl Abort, shelf: &R, case: Named) -> Re
 }
 
 fn reads_refused<R: ReadableShelf>(rt: &impl Abort, shelf: &R) -> Result<(), Fail> {
-    for case in &NAMED {
+    for case in &named_cases() {
         read_refused(rt, shelf, *case)?;
     }
     Ok(())
@@ -127,7 +83,7 @@ fn write_refused<W: WritableShelf>(
 }
 
 fn writes_refused<W: WritableShelf>(rt: &impl Abort, shelf: &mut W) -> Result<(), Fail> {
-    for case in &NAMED {
+    for case in &named_cases() {
         write_refused(rt, shelf, *case)?;
     }
     Ok(())
@@ -228,125 +184,41 @@ struct Opened {
     refusal: Refusal,
 }
 
-const OPENED: [Opened; 16] = [
-    // No such numbers of cards and blocks.
+fn opened_image(cards: u32, blocks: u32, length: usize, flag: u8, refusal: Refusal) -> Opened {
     Opened {
-        cards: 2,
-        blocks: 2,
-        length: 516,
-        flag: 0,
-        refusal: Refusal::Shape,
-    },
-    Opened {
-        cards: 0,
-        blocks: 2,
-        length: 0,
-        flag: 0,
-        refusal: Refusal::Shape,
-    },
-    Opened {
-        cards: 3,
-        blocks: 0,
-        length: 0,
-        flag: 0,
-        refusal: Refusal::Shape,
-    },
-    Opened {
-        cards: 9,
-        blocks: 1,
-        length: 1161,
-        flag: 0,
-        refusal: Refusal::Shape,
-    },
-    // Another length.
-    Opened {
-        cards: 3,
-        blocks: 2,
-        length: 773,
-        flag: 0,
-        refusal: Refusal::Length,
-    },
-    Opened {
-        cards: 3,
-        blocks: 2,
-        length: 775,
-        flag: 0,
-        refusal: Refusal::Length,
-    },
-    Opened {
-        cards: 3,
-        blocks: 2,
-        length: 0,
-        flag: 0,
-        refusal: Refusal::Length,
-    },
-    // A flag above 1.
-    Opened {
-        cards: 3,
-        blocks: 2,
-        length: 774,
-        flag: 2,
-        refusal: Refusal::Length,
-    },
-    Opened {
-        cards: 3,
-        blocks: 2,
-        length: 774,
-        flag: 255,
-        refusal: Refusal::Length,
-    },
-    // 2 and 1, by the length.
-    Opened {
-        cards: 2,
-        blocks: 2,
-        length: 774,
-        flag: 0,
-        refusal: Refusal::Shape,
-    },
-    Opened {
-        cards: 9,
-        blocks: 1,
-        length: 1160,
-        flag: 0,
-        refusal: Refusal::Shape,
-    },
-    Opened {
-        cards: 3,
-        blocks: 0,
-        length: 1,
-        flag: 0,
-        refusal: Refusal::Shape,
-    },
-    Opened {
-        cards: 3,
-        blocks: 65537,
-        length: 774,
-        flag: 0,
-        refusal: Refusal::Shape,
-    },
-    Opened {
-        cards: 4294967295,
-        blocks: 4294967295,
-        length: 774,
-        flag: 0,
-        refusal: Refusal::Shape,
-    },
-    // 2 and 1, by a flag.
-    Opened {
-        cards: 2,
-        blocks: 2,
-        length: 516,
-        flag: 2,
-        refusal: Refusal::Shape,
-    },
-    Opened {
-        cards: 9,
-        blocks: 1,
-        length: 1161,
-        flag: 2,
-        refusal: Refusal::Shape,
-    },
-];
+        cards,
+        blocks,
+        length,
+        flag,
+        refusal,
+    }
+}
+
+fn opened_cases() -> [Opened; 16] {
+    [
+        // No such numbers of cards and blocks.
+        opened_image(2, 2, 516, 0, Refusal::Shape),
+        opened_image(0, 2, 0, 0, Refusal::Shape),
+        opened_image(3, 0, 0, 0, Refusal::Shape),
+        opened_image(9, 1, 1161, 0, Refusal::Shape),
+        // Another length.
+        opened_image(3, 2, 773, 0, Refusal::Length),
+        opened_image(3, 2, 775, 0, Refusal::Length),
+        opened_image(3, 2, 0, 0, Refusal::Length),
+        // A flag above 1.
+        opened_image(3, 2, 774, 2, Refusal::Length),
+        opened_image(3, 2, 774, 255, Refusal::Length),
+        // 2 and 1, by the length.
+        opened_image(2, 2, 774, 0, Refusal::Shape),
+        opened_image(9, 1, 1160, 0, Refusal::Shape),
+        opened_image(3, 0, 1, 0, Refusal::Shape),
+        opened_image(3, 65537, 774, 0, Refusal::Shape),
+        opened_image(4294967295, 4294967295, 774, 0, Refusal::Shape),
+        // 2 and 1, by a flag.
+        opened_image(2, 2, 516, 2, Refusal::Shape),
+        opened_image(9, 1, 1161, 2, Refusal::Shape),
+    ]
+}
 
 fn open_refused(rt: &HostRuntime, case: Opened) -> Result<Option<Refusal>, Fail> {
     let mut bytes = [0u8; 1161];
@@ -370,9 +242,30 @@ fn open_refused(rt: &HostRuntime, case: Opened) -> Result<Option<Refusal>, Fail>
 // The bytes are handed back as they were.
 #[test]
 fn images_refused(rt: HostRuntime) -> Result<(), Fail> {
-    for case in &OPENED {
+    for case in &opened_cases() {
         assert_eq!(rt; open_refused(&rt, *case)?, Some(case.refusal));
     }
+    Ok(())
+}
+
+// 3 cards with 65,537 blocks each: the bytes are as many as their places would take.
+#[test]
+fn an_image_of_too_many_blocks(rt: HostRuntime) -> Result<(), Fail> {
+    let bytes = vec![in rt.alloc(); 0u8; 25362819]?;
+    assert_eq!(rt;
+        ImageView::open(3, 65537, bytes.as_slice()).err(),
+        Some(Refusal::Shape)
+    );
+    let opened = Image::open(3, 65537, bytes);
+    assert!(rt;
+        matches!(
+            opened,
+            Err(HandedBack {
+                refusal: Refusal::Shape,
+                ..
+            })
+        )
+    );
     Ok(())
 }
 
