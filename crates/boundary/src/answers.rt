@@ -2,6 +2,7 @@
 ghost use Rattle.std.specs.Prelude.{◌+◌, ◌≤◌, ◌^◌, ◌<◌, length};
 
 use block::Refusal;
+use runs::{RebuildCounts, ScrubCounts};
 use std::mem;
 use stripe::{Cause, Condition, Finding, Layer};
 
@@ -16,6 +17,22 @@ pub(crate) struct Answers<'a> {
 // 0, or the refusal's number.
 pub(crate) fn refusal_word(refusal: Option<Refusal>) -> u32 {
     refusal.map_or(0, |why| u32::from(why.number()))
+}
+
+// The words of what a scrub answers.
+pub(crate) fn scrub_words(counts: ScrubCounts) -> [u32; 5] {
+    [
+        counts.looked,
+        counts.clean,
+        counts.mended,
+        counts.short,
+        counts.lost,
+    ]
+}
+
+// The words of what a rebuild answers.
+pub(crate) fn rebuild_words(counts: RebuildCounts) -> [u32; 3] {
+    [counts.moved, counts.mended, counts.lost]
 }
 
 fn condition_word(condition: Condition) -> u32 {

@@ -1,7 +1,7 @@
 // Plays the calls of a script on an array over a fault layer over an image.
-ghost use Rattle.std.specs.Prelude.{◌≤◌, OnOk};
+ghost use Rattle.std.specs.Prelude.{◌≡◌, ◌≤◌, OnOk};
 
-use crate::answers::{Answers, refusal_word};
+use crate::answers::{Answers, rebuild_words, refusal_word, scrub_words};
 use crate::calls::{
     ArrayCall, Call, Calls, JobCall, LONGEST, LayerCall, Length, LookWords, ReadWords, WriteWords,
 };
@@ -98,190 +98,6 @@ fn answer_show(source: Source, found: &[u8], rebuilt: &[u8], out: &mut Answers) 
     }
 }
 
-fn play_read<C: Checksum>(
-    array: &mut Cards<C>,
-    words: ReadWords,
-    findings: &mut [Finding; 8],
-    out: &mut Answers,
-) {
-    let mut first = [FILL; LONGEST];
-    let mut second = [FILL; LONGEST];
-    let found = words.found.of(&mut first);
-    let rebuilt = words.rebuilt.of(&mut second);
-    let answer = array.read(
-        words.address,
-        words.owner,
-        &words.switch,
-        found,
-        rebuilt,
-        findings,
-    );
-    out.answer(answer.map(|read| [source_word(read.source), read.looks]));
-    out.bytes(found);
-    out.bytes(rebuilt);
-    out.findings(findings);
-    answer_show(Source::Found, found, rebuilt, out);
-    answer_show(Source::Rebuilt, found, rebuilt, out);
-}
-
-fn play_write<C: Checksum>(
-    array: &mut Cards<C>,
-    words: WriteWords,
-    findings: &mut [Finding; 8],
-    out: &mut Answers,
-) {
-    let answer = array.write(
-        words.address,
-        words.owner,
-        words.payload,
-        words.way,
-        findings,
-    );
-    out.answer(answer.map(|written| [written.looks]));
-    out.findings(findings);
-}
-
-fn play_scrub<C: Checksum>(
-    array: &mut Cards<C>,
-    stripes: u32,
-    findings: &mut [Finding; 8],
-    out: &mut Answers,
-) {
-    let answer = array.scrub(stripes, findings);
-    out.answer(answer.map(|counts| {
-        [
-            counts.looked,
-            counts.clean,
-            counts.mended,
-            counts.short,
-            counts.lost,
-        ]
-    }));
-    out.findings(findings);
-}
-
-fn play_look<C: Checksum>(array: &mut Cards<C>, words: LookWords, out: &mut Answers) {
-    let mut row = [FILL; LONGEST];
-    let seen = words.length.of(&mut row);
-    let mut switch = words.switch;
-    let answer = array.look(words.first, words.count, words.owner, &mut switch, seen);
-    out.answer(answer.map(|look| [look.read, refusal_word(look.stopped)]));
-    out.bytes(seen);
-    out.flag(switch.mending);
-}
-
-// Gives up the job in hand, if there is one.
-fn let_go<C: Checksum>(array: &mut Cards<C>, job: Option<RebuildJob>, out: &mut Answers) {
-    if let Some(held) = job {
-        out.outcome(array.give_up(held).err());
-    }
-}
-
-fn play_fit<C: Checksum>(
-    array: &mut Cards<C>,
-    job: Option<RebuildJob>,
-    slot: u32,
-    out: &mut Answers,
-) -> Option<RebuildJob> {
-    let_go(array, job, out);
-    match array.fit(slot) {
-        Ok(fresh) => {
-            out.outcome(None);
-            Some(fresh)
-        }
-        Err(refusal) => {
-            out.outcome(Some(refusal));
-            None
-        }
-    }
-}
-
-fn play_rebuild<C: Checksum>(
-    array: &mut Cards<C>,
-    job: &Option<RebuildJob>,
-    stripes: u32,
-    out: &mut Answers,
-) {
-    match job {
-        None => out.word(NO_JOB),
-        Some(held) => {
-            let answer = array.rebuild(held, stripes);
-            out.answer(answer.map(|counts| [counts.moved, counts.mended, counts.lost]));
-        }
-    }
-}
-
-fn play_finish<C: Checksum>(
-    array: &mut Cards<C>,
-    job: Option<RebuildJob>,
-    out: &mut Answers,
-) -> Option<RebuildJob> {
-    let Some(held) = job else {
-        out.word(NO_JOB);
-        return None;
-    };
-    match array.finish(held) {
-        Ok(()) => {
-            out.outcome(None);
-            None
-        }
-        Err(HandedBack { refusal, value }) => {
-            out.outcome(Some(refusal));
-            Some(value)
-        }
-    }
-}
-
-fn play_give_up<C: Checksum>(array: &mut Cards<C>, job: Option<RebuildJob>, out: &mut Answers) {
-    match job {
-        None => out.word(NO_JOB),
-        Some(held) => out.outcome(array.give_up(held).err()),
-    }
-}
-
-fn play_on_array<C: Checksum>(
-    array: &mut Cards<C>,
-    findings: &mut [Finding; 8],
-    call: ArrayCall,
-    out: &mut Answers,
-) {
-    match call {
-        ArrayCall::Read(words) => play_read(array, words, findings, out),
-        ArrayCall::Write(words) => play_write(array, words, findings, out),
-        ArrayCall::Scrub(stripes) => play_scrub(array, stripes, findings, out),
-        ArrayCall::Look(words) => play_look(array, words, out),
-        ArrayCall::Pull(slot) => out.outcome(array.pull(slot).err()),
-        ArrayCall::Lay(slot, block, plan) => out.outcome(array.lay(slot, block, plan).err()),
-        ArrayCall::Blind(slot, block) => out.outcome(array.blind(slot, block).err()),
-        ArrayCall::Flip(slot, block, index, mask) => {
-            out.outcome(array.flip(slot, block, index, mask).err())
-        }
-        ArrayCall::Tally => out.word(array.tally()),
-        ArrayCall::SlotState(slot) => out.answer(array.slot_state(slot).map(state_words)),
-    }
-}
-
-// Answers the job that is in hand afterwards.
-fn play_on_job<C: Checksum>(
-    array: &mut Cards<C>,
-    job: Option<RebuildJob>,
-    call: JobCall,
-    out: &mut Answers,
-) -> Option<RebuildJob> {
-    match call {
-        JobCall::Fit(slot) => play_fit(array, job, slot, out),
-        JobCall::Rebuild(stripes) => {
-            play_rebuild(array, &job, stripes, out);
-            job
-        }
-        JobCall::Finish => play_finish(array, job, out),
-        JobCall::GiveUp => {
-            play_give_up(array, job, out);
-            None
-        }
-    }
-}
-
 fn play_layer_read(
     layer: &FaultLayer<Image>,
     slot: u32,
@@ -296,58 +112,201 @@ fn play_layer_read(
     out.bytes(seen);
 }
 
-// The array is closed for the call, and opened again over the same layer.
-fn play_on_layer<C: Checksum>(
-    array: Cards<C>,
-    tag: u32,
-    call: LayerCall,
-    out: &mut Answers,
-) -> Cards<C>
-    requires { 1 ≤ tag }
-{
-    let mut layer = array.close();
-    match call {
-        LayerCall::Reopen => out.outcome(None),
-        LayerCall::Read(slot, block, length) => play_layer_read(&layer, slot, block, length, out),
-        LayerCall::Write(slot, block, bytes) => out.outcome(layer.write(slot, block, bytes).err()),
-    }
-    Array::open(layer, tag).unwrap()
-}
-
-// One call.
-fn play<C: Checksum>(player: Player<C>, tag: u32, call: Call, out: &mut Answers) -> Player<C>
-    requires { 1 ≤ tag }
-{
-    let Player {
-        mut array,
-        mut job,
-        mut findings,
-    } = player;
-    match call {
-        Call::Array(call) => play_on_array(&mut array, &mut findings, call, out),
-        Call::Job(call) => job = play_on_job(&mut array, job, call, out),
-        Call::Layer(call) => array = play_on_layer(array, tag, call, out),
-    }
-    Player {
-        array,
-        job,
-        findings,
+// Gives up a job, if there is one.
+fn let_go<C: Checksum>(array: &mut Cards<C>, job: Option<RebuildJob>, out: &mut Answers) {
+    if let Some(held) = job {
+        out.outcome(array.give_up(held).err());
     }
 }
 
-// The calls of a script, up to the first that is not all there.
-fn play_all<C: Checksum>(array: Cards<C>, tag: u32, calls: Calls, out: &mut Answers) -> Player<C>
-    requires { 1 ≤ tag }
-{
-    let mut player = Player {
-        array,
-        job: None,
-        findings: blank_findings(),
-    };
-    for call in calls {
-        player = play(player, tag, call, out);
+impl<C: Checksum> Player<C> {
+    // With no job in hand, and no finding yet.
+    fn new(array: Cards<C>) -> Player<C> {
+        Player {
+            array,
+            job: None,
+            findings: blank_findings(),
+        }
     }
-    player
+
+    // Takes a job in hand, where none is.
+    fn hold(&mut self, job: RebuildJob)
+        requires { self.old.job ≡ None }
+    {
+        match self.job.replace(job) {
+            None => {}
+            Some(_) => unreachable!(),
+        }
+    }
+
+    fn read(&mut self, words: ReadWords, out: &mut Answers) {
+        let mut first = [FILL; LONGEST];
+        let mut second = [FILL; LONGEST];
+        let found = words.found.of(&mut first);
+        let rebuilt = words.rebuilt.of(&mut second);
+        let answer = self.array.read(
+            words.address,
+            words.owner,
+            &words.switch,
+            found,
+            rebuilt,
+            &mut self.findings,
+        );
+        out.answer(answer.map(|read| [source_word(read.source), read.looks]));
+        out.bytes(found);
+        out.bytes(rebuilt);
+        out.findings(&self.findings);
+        answer_show(Source::Found, found, rebuilt, out);
+        answer_show(Source::Rebuilt, found, rebuilt, out);
+    }
+
+    fn write(&mut self, words: WriteWords, out: &mut Answers) {
+        let answer = self.array.write(
+            words.address,
+            words.owner,
+            words.payload,
+            words.way,
+            &mut self.findings,
+        );
+        out.answer(answer.map(|written| [written.looks]));
+        out.findings(&self.findings);
+    }
+
+    fn scrub(&mut self, stripes: u32, out: &mut Answers) {
+        let answer = self.array.scrub(stripes, &mut self.findings);
+        out.answer(answer.map(scrub_words));
+        out.findings(&self.findings);
+    }
+
+    fn look(&mut self, words: LookWords, out: &mut Answers) {
+        let mut row = [FILL; LONGEST];
+        let seen = words.length.of(&mut row);
+        let mut switch = words.switch;
+        let answer = self
+            .array
+            .look(words.first, words.count, words.owner, &mut switch, seen);
+        out.answer(answer.map(|look| [look.read, refusal_word(look.stopped)]));
+        out.bytes(seen);
+        out.flag(switch.mending);
+    }
+
+    fn fit(&mut self, slot: u32, out: &mut Answers) {
+        let_go(&mut self.array, self.job.take(), out);
+        match self.array.fit(slot) {
+            Ok(fresh) => {
+                out.outcome(None);
+                self.hold(fresh);
+            }
+            Err(refusal) => out.outcome(Some(refusal)),
+        }
+    }
+
+    fn rebuild(&mut self, stripes: u32, out: &mut Answers) {
+        match &self.job {
+            None => out.word(NO_JOB),
+            Some(held) => out.answer(self.array.rebuild(held, stripes).map(rebuild_words)),
+        }
+    }
+
+    fn finish(&mut self, out: &mut Answers) {
+        let Some(held) = self.job.take() else {
+            out.word(NO_JOB);
+            return;
+        };
+        match self.array.finish(held) {
+            Ok(()) => out.outcome(None),
+            Err(HandedBack { refusal, value }) => {
+                out.outcome(Some(refusal));
+                self.hold(value);
+            }
+        }
+    }
+
+    fn give_up(&mut self, out: &mut Answers) {
+        match self.job.take() {
+            None => out.word(NO_JOB),
+            Some(held) => out.outcome(self.array.give_up(held).err()),
+        }
+    }
+
+    fn play_on_array(&mut self, call: ArrayCall, out: &mut Answers) {
+        match call {
+            ArrayCall::Read(words) => self.read(words, out),
+            ArrayCall::Write(words) => self.write(words, out),
+            ArrayCall::Scrub(stripes) => self.scrub(stripes, out),
+            ArrayCall::Look(words) => self.look(words, out),
+            ArrayCall::Pull(slot) => out.outcome(self.array.pull(slot).err()),
+            ArrayCall::Lay(slot, block, plan) => {
+                out.outcome(self.array.lay(slot, block, plan).err())
+            }
+            ArrayCall::Blind(slot, block) => out.outcome(self.array.blind(slot, block).err()),
+            ArrayCall::Flip(slot, block, index, mask) => {
+                out.outcome(self.array.flip(slot, block, index, mask).err())
+            }
+            ArrayCall::Tally => out.word(self.array.tally()),
+            ArrayCall::SlotState(slot) => out.answer(self.array.slot_state(slot).map(state_words)),
+        }
+    }
+
+    fn play_on_job(&mut self, call: JobCall, out: &mut Answers) {
+        match call {
+            JobCall::Fit(slot) => self.fit(slot, out),
+            JobCall::Rebuild(stripes) => self.rebuild(stripes, out),
+            JobCall::Finish => self.finish(out),
+            JobCall::GiveUp => self.give_up(out),
+        }
+    }
+
+    // The array is closed for the call, and opened again over the same layer.
+    fn play_on_layer(mut self, tag: u32, call: LayerCall, out: &mut Answers) -> Player<C>
+        requires { 1 ≤ tag }
+    {
+        let mut layer = self.array.close();
+        match call {
+            LayerCall::Reopen => out.outcome(None),
+            LayerCall::Read(slot, block, length) => {
+                play_layer_read(&layer, slot, block, length, out)
+            }
+            LayerCall::Write(slot, block, bytes) => {
+                out.outcome(layer.write(slot, block, bytes).err())
+            }
+        }
+        self.array = Array::open(layer, tag).unwrap();
+        self
+    }
+
+    // One call.
+    fn play(mut self, tag: u32, call: Call, out: &mut Answers) -> Player<C>
+        requires { 1 ≤ tag }
+    {
+        match call {
+            Call::Array(call) => self.play_on_array(call, out),
+            Call::Job(call) => self.play_on_job(call, out),
+            Call::Layer(call) => return self.play_on_layer(tag, call, out),
+        }
+        self
+    }
+
+    // The calls of a script, up to the first that is not all there.
+    fn play_all(mut self, tag: u32, calls: Calls, out: &mut Answers) -> Player<C>
+        requires { 1 ≤ tag }
+    {
+        for call in calls {
+            self = self.play(tag, call, out);
+        }
+        self
+    }
+
+    // Gives up the job in hand, if there is one, and hands back the layer.
+    fn close(self, out: &mut Answers) -> FaultLayer<Image> {
+        let Player {
+            mut array,
+            job,
+            findings: _,
+        } = self;
+        let_go(&mut array, job, out);
+        array.close()
+    }
 }
 
 // The array over a layer, opened or formatted.
@@ -373,13 +332,8 @@ fn play_over<C: Checksum>(
     match begun::<C>(layer, start) {
         Ok(array) => {
             out.outcome(None);
-            let Player {
-                mut array,
-                job,
-                findings: _,
-            } = play_all(array, start.tag, calls, out);
-            let_go(&mut array, job, out);
-            array.close()
+            let player = Player::new(array).play_all(start.tag, calls, out);
+            player.close(out)
         }
         Err(HandedBack { refusal, value }) => {
             out.outcome(Some(refusal));

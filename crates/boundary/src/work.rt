@@ -1,6 +1,7 @@
 // Work whose time is measured: one kind of call on an array over an image, many times.
 ghost use Rattle.std.specs.Prelude.{◌≤◌};
 
+use crate::answers::{rebuild_words, scrub_words};
 use array::{Array, show};
 use block::Refusal;
 use checksum::Checksum;
@@ -109,49 +110,47 @@ fn read_one<C: Checksum>(
     Ok([u32::from(first), answer.looks])
 }
 
-fn reads<C: Checksum>(array: &mut Cards<C>, work: Work, order: Order) -> u64 {
+// So many steps, one after the other. A step takes the number, the turn's number and a random address, and answers the
+// number with its own words mixed in.
+fn turns<F: FnMut(u64, u32, u32) -> u64>(work: Work, mut step: F) -> u64
+    requires { F.IsAlwaysCallable step }
+{
     let addresses = addresses_of(work);
-    let mut found = [0u8; 128];
-    let mut rebuilt = [0u8; 128];
-    let mut findings = [Finding::default(); 8];
     let mut number = 0;
     let mut x = 1;
-    for i in 0..work.count {
+    for turn in 0..work.count {
         x = drawn(x);
-        let address = match order {
-            Order::Rising => i,
-            Order::Random => address_of(x, addresses),
-        };
-        let answer = read_one(array, address, &mut found, &mut rebuilt, &mut findings);
-        number = mixed_answer(number, answer);
+        number = step(number, turn, address_of(x, addresses));
     }
     number
 }
 
-fn writes<C: Checksum>(array: &mut Cards<C>, work: Work, way: Way) -> u64 {
-    let addresses = addresses_of(work);
+fn reads<C: Checksum>(array: &mut Cards<C>, work: Work, order: Order) -> u64 {
+    let mut found = [0u8; 128];
+    let mut rebuilt = [0u8; 128];
     let mut findings = [Finding::default(); 8];
-    let mut number = 0;
-    let mut x = 1;
-    for i in 0..work.count {
-        x = drawn(x);
-        let payload = [(i & 255) as u8; 80];
-        let address = address_of(x, addresses);
+    turns(work, |number, turn, random| {
+        let address = match order {
+            Order::Rising => turn,
+            Order::Random => random,
+        };
+        let answer = read_one(array, address, &mut found, &mut rebuilt, &mut findings);
+        mixed_answer(number, answer)
+    })
+}
+
+fn writes<C: Checksum>(array: &mut Cards<C>, work: Work, way: Way) -> u64 {
+    let mut findings = [Finding::default(); 8];
+    turns(work, |number, turn, address| {
+        let payload = [(turn & 255) as u8; 80];
         let answer = array.write(address, OWNER, &payload, way, &mut findings);
-        number = mixed_answer(number, answer.map(|written| [written.looks]));
-    }
-    number
+        mixed_answer(number, answer.map(|written| [written.looks]))
+    })
 }
 
 fn scrub<C: Checksum>(array: &mut Cards<C>, count: u32) -> Result<[u32; 5], Refusal> {
     let counts = array.scrub(count, &mut [Finding::default(); 8])?;
-    Ok([
-        counts.looked,
-        counts.clean,
-        counts.mended,
-        counts.short,
-        counts.lost,
-    ])
+    Ok(scrub_words(counts))
 }
 
 fn rebuild<C: Checksum>(array: &mut Cards<C>, count: u32) -> Result<[u32; 3], Refusal> {
@@ -161,8 +160,7 @@ fn rebuild<C: Checksum>(array: &mut Cards<C>, count: u32) -> Result<[u32; 3], Re
     if let Err(back) = array.finish(job) {
         let _ = array.give_up(back.value);
     }
-    let counts = answer?;
-    Ok([counts.moved, counts.mended, counts.lost])
+    Ok(rebuild_words(answer?))
 }
 
 fn worked<C: Checksum>(array: &mut Cards<C>, work: Work) -> u64 {
