@@ -1,4 +1,5 @@
 // Refusals of the array's calls, where two reasons apply at once, and that a refused call changes nothing.
+use crate::bench::{Bench, fit_refusal};
 use array::Array;
 use block::{HandedBack, Refusal};
 use checksum::{Checksum, Fletcher};
@@ -9,8 +10,6 @@ use shelf::{ReadableShelf, WritableShelf};
 use std::process::Abort;
 use std::test::Fail;
 use stripe::{Finding, SlotState};
-
-type Bench = Array<FaultLayer<Image>, Fletcher>;
 
 // Three cards with two blocks each: addresses 0 to 3.
 fn bench(rt: &HostRuntime) -> Result<Bench, Fail> {
@@ -112,17 +111,6 @@ fn write_refusals(rt: &impl Abort, array: &mut Bench) -> Result<(), Fail> {
 #[test]
 fn writes_are_refused_by_the_smallest_number(rt: HostRuntime) -> Result<(), Fail> {
     on_bench(&rt, |array| write_refusals(&rt, array))
-}
-
-// Why a card cannot be fitted; a job that is given is given up.
-fn fit_refusal(array: &mut Bench, slot: u32) -> Option<Refusal> {
-    match array.fit(slot) {
-        Ok(job) => {
-            let _ = array.give_up(job);
-            None
-        }
-        Err(refusal) => Some(refusal),
-    }
 }
 
 fn slot_refusals(rt: &impl Abort, array: &mut Bench) -> Result<(), Fail> {

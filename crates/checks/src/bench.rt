@@ -20,6 +20,9 @@ pub type Bench = Array<FaultLayer<Image>, Fletcher>;
 // The greatest version.
 pub const TOP: u32 = 4294967295;
 
+// Nothing happens to the bench before the call.
+pub const WHOLE: &[Step] = &[];
+
 // What happens to the bench before the call.
 #[derive(Clone, Copy)]
 pub enum Step {
@@ -111,7 +114,7 @@ fn image_of(heap: Global, scene: Scene) -> Result<Image, Fail> {
 }
 
 // What a shelf shows of a place; a place that it has not counts as blind.
-fn cell_at<R: ReadableShelf>(shelf: &R, slot: u32, block: u32) -> Cell {
+pub fn cell_at<R: ReadableShelf>(shelf: &R, slot: u32, block: u32) -> Cell {
     let mut bytes = [0u8; 128];
     match shelf.read(slot, block, &mut bytes) {
         Ok(Sight::Present) => Some(bytes),
@@ -212,6 +215,17 @@ fn run<F: Fn(&mut Bench) -> Result<(), Fail>>(
         take(array, *step)?;
     }
     call(array)
+}
+
+// Why a card cannot be fitted; a job that is given is given up.
+pub fn fit_refusal(array: &mut Bench, slot: u32) -> Option<Refusal> {
+    match array.fit(slot) {
+        Ok(job) => {
+            let _ = array.give_up(job);
+            None
+        }
+        Err(refusal) => Some(refusal),
+    }
 }
 
 fn slots(array: &Bench) -> [Option<SlotState>; 3] {

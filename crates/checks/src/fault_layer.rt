@@ -1,8 +1,9 @@
 // Sequences on the fault layer: rows that are used again, marks, and a full table.
+use crate::bench::cell_at;
 use block::Refusal;
 use faults::{FaultLayer, Plan};
 use image::Image;
-use shelf::{ReadableShelf, Sight, WritableShelf};
+use shelf::WritableShelf;
 use std::test::Fail;
 
 fn bench(rt: &HostRuntime) -> Result<FaultLayer<Image>, Fail> {
@@ -11,11 +12,8 @@ fn bench(rt: &HostRuntime) -> Result<FaultLayer<Image>, Fail> {
 
 // The byte at an index of a place, or none where the place is blind.
 fn byte_at(layer: &FaultLayer<Image>, slot: u32, block: u32, index: usize) -> Option<u8> {
-    let mut bytes = [0u8; 128];
-    match layer.read(slot, block, &mut bytes) {
-        Ok(Sight::Present) => bytes.get(index).copied(),
-        Ok(Sight::Blind) | Err(_) => None,
-    }
+    let bytes = cell_at(layer, slot, block)?;
+    bytes.get(index).copied()
 }
 
 // Lose on X, tear on Y, a write to X, lose on Y: a write to Y tears, since that plan came first.

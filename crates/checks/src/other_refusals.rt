@@ -1,6 +1,6 @@
 // Refusals of the other calls: each reason alone, and of two that hold at once the one that comes first. A refused call
 // changes nothing.
-use crate::bench::{Bench, Step, after, blank, changes_nothing};
+use crate::bench::{Bench, Step, WHOLE, after, blank, changes_nothing, fit_refusal};
 use array::{Array, RebuildJob};
 use block::{HandedBack, Refusal};
 use checksum::Fletcher;
@@ -12,8 +12,6 @@ use std::process::Abort;
 use std::test::Fail;
 use stripe::SlotState;
 
-const WHOLE: &[Step] = &[];
-
 // A call that has no buffers.
 #[derive(Clone, Copy)]
 enum Call {
@@ -23,17 +21,6 @@ enum Call {
     Lay(u32, u32, Plan),
     Blind(u32, u32),
     Flip(u32, u32, u32, u32),
-}
-
-// Why a card cannot be fitted; a job that is given is given up.
-fn fit_refusal(array: &mut Bench, slot: u32) -> Option<Refusal> {
-    match array.fit(slot) {
-        Ok(job) => {
-            let _ = array.give_up(job);
-            None
-        }
-        Err(refusal) => Some(refusal),
-    }
 }
 
 fn refusal_of(array: &mut Bench, call: Call) -> Option<Refusal> {

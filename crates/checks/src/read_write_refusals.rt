@@ -1,14 +1,12 @@
 // Refusals of reads and writes: each reason alone, and of two that hold at once the one that comes first. A refused call
 // changes nothing; where it comes after looking, the buffers are zero and the findings are filled.
-use crate::bench::{Bench, Scene, Step, TOP, after, are_filled, blank, changes_nothing};
+use crate::bench::{Bench, Scene, Step, TOP, WHOLE, after, are_filled, blank, changes_nothing};
 use block::Refusal;
 use runs::{Switch, Way};
 use std::alloc::Global;
 use std::process::Abort;
 use std::test::Fail;
 use stripe::{Cause, Condition};
-
-const WHOLE: &[Step] = &[];
 
 // The block of address 0, and another block of its stripe.
 const LOST_0: &[Step] = &[Step::Blind(0, 0), Step::Blind(1, 0)];

@@ -1,6 +1,6 @@
 // Refusals where there is no array yet, or none is needed: an image, a shelf's own read and write, a survey, format and
 // open, and show. What was handed in is as before.
-use crate::bench::{Step, after, bytes_at, bytes_of, cells, image_with};
+use crate::bench::{WHOLE, after, bytes_at, bytes_of, cells, image_with};
 use array::{Array, show};
 use block::{HandedBack, Refusal};
 use checksum::Fletcher;
@@ -11,8 +11,6 @@ use shelf::{ReadableShelf, WritableShelf};
 use std::process::Abort;
 use std::test::Fail;
 use stripe::survey;
-
-const WHOLE: &[Step] = &[];
 
 // A shelf's read or write of a buffer of a length.
 #[derive(Clone, Copy)]
@@ -52,39 +50,26 @@ fn named_cases() -> [Named; 11] {
     ]
 }
 
-fn read_refused<R: ReadableShelf>(rt: &impl Abort, shelf: &R, case: Named) -> Result<(), Fail> {
-    let mut buf = [6u8; 129];
-    let part = buf.get_mut(..case.length).ok_or("too long")?;
-    let refusal = shelf.read(case.slot, case.block, part).err();
-    assert_eq!(rt; refusal, Some(case.refusal));
-    assert!(rt; buf == [6; 129]);
-    Ok(())
-}
-
 fn reads_refused<R: ReadableShelf>(rt: &impl Abort, shelf: &R) -> Result<(), Fail> {
+    let mut bytes = [6u8; 129];
     for case in &named_cases() {
-        read_refused(rt, shelf, *case)?;
+        let part = bytes.get_mut(..case.length).ok_or("too long")?;
+        let refusal = shelf.read(case.slot, case.block, part).err();
+        assert_eq!(rt; refusal, Some(case.refusal));
+        assert!(rt; bytes == [6; 129]);
     }
     Ok(())
 }
 
-fn write_refused<W: WritableShelf>(
-    rt: &impl Abort,
-    shelf: &mut W,
-    case: Named,
-) -> Result<(), Fail> {
-    let bytes = [6u8; 129];
-    let part = bytes.get(..case.length).ok_or("too long")?;
-    let before = cells(shelf);
-    let refusal = shelf.write(case.slot, case.block, part).err();
-    assert_eq!(rt; refusal, Some(case.refusal));
-    assert!(rt; cells(shelf) == before);
-    Ok(())
-}
-
 fn writes_refused<W: WritableShelf>(rt: &impl Abort, shelf: &mut W) -> Result<(), Fail> {
+    let before = cells(shelf);
     for case in &named_cases() {
-        write_refused(rt, shelf, *case)?;
+        let part = [6u8; 129];
+        let refusal = shelf
+            .write(case.slot, case.block, part.get(..case.length).ok_or("too long")?)
+            .err();
+        assert_eq!(rt; refusal, Some(case.refusal));
+        assert!(rt; cells(shelf) == before);
     }
     Ok(())
 }
