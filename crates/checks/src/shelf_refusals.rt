@@ -66,7 +66,11 @@ fn writes_refused<W: WritableShelf>(rt: &impl Abort, shelf: &mut W) -> Result<()
     for case in &named_cases() {
         let part = [6u8; 129];
         let refusal = shelf
-            .write(case.slot, case.block, part.get(..case.length).ok_or("too long")?)
+            .write(
+                case.slot,
+                case.block,
+                part.get(..case.length).ok_or("too long")?,
+            )
             .err();
         assert_eq!(rt; refusal, Some(case.refusal));
         assert!(rt; cells(shelf) == before);
