@@ -8,6 +8,8 @@ mod bench;
 #[cfg(test)]
 mod fault_layer;
 #[cfg(test)]
+mod frame_refusals;
+#[cfg(test)]
 mod mutants;
 #[cfg(test)]
 mod other_refusals;

@@ -32,7 +32,8 @@ fn record(byte: u8, owner: u32) -> Record {
 
 // A data block of payload and version; the first index has owner 41, the second 42.
 fn data_block(at: DataSpot, byte: u8, version: u32) -> [u8; 128] {
-    new_data::<Fletcher>(at, &record(byte, 41 + at.index), version)
+    at.data()
+        .make_block::<Fletcher>(&record(byte, 41 + at.index), &[version, 0, 0, 0, 0, 0, 0])
 }
 
 fn mended_data(stripe: &Stripe, at: DataSpot) -> [u8; 128] {
@@ -134,7 +135,7 @@ fn all_data_summed_beside_a_stale_block(rt: HostRuntime) -> Result<(), Fail> {
     let parity = pair.parity_block(5 ^ 6, 2, 2);
     let seen = pair.judged(&old, &stale, &parity);
     assert_eq!(rt; plan_of(&seen, pair.first), Plan::BySum);
-    let new = data_block(pair.first, 7, 3);
+    let new = new_data::<Fletcher>(pair.first, &record(7, 41), 3);
     let right = pair.parity_of_7(&seen, Plan::BySum, false, 3);
     let found = pair.judged(&new, &stale, &right);
     let mended = mended_data(&found, pair.second);

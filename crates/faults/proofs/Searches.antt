@@ -1,6 +1,6 @@
 -- What the searches in the rows give.
-use Rattle.std.specs.Prelude.{◌≡◌, ℕ, zero, suc, ◌+◌, ◌<◌, not, List, [], ◌∷◌, length, filter, Some, None, Option, MatchOption, slice_index_or, refl}
-use Rattle.std.proofs.Common.{sym, ap, ◌∙◌, le_of_suc-le-suc, arith}
+use Rattle.std.specs.Prelude.{◌≡◌, ℕ, zero, suc, ◌+◌, ◌<◌, Bool, true, false, not, List, [], ◌∷◌, length, filter, Some, None, Option, MatchOption, slice_index_or, refl}
+use Rattle.std.proofs.Common.{cond, sym, ap, ◌∙◌, le_of_suc-le-suc, arith}
 use Rattle.std.specs.List.{list_any}
 use Rattle.std.proofs.lemmas.Bool.Decides.{nat_tests}
 use Rattle.faults.specs.declared.rows.Row.{Row}
@@ -15,6 +15,16 @@ module _ (i j : ℕ) where
   pub unmarked_filter : (rows : List Row) → filter (λ r. not (is_mark i j r)) rows ≡ unmarked i j rows
   unmarked_filter [] = refl
   unmarked_filter (r ∷ rows) = grind (arith, nat_tests, unmarked_filter rows)
+
+  -- where there is no mark, none is to go
+  pub unmarked_idle : (rows : List Row) → false ≡ marked i j rows → rows ≡ unmarked i j rows
+  unmarked_idle [] e = refl
+  unmarked_idle (r ∷ rows) e = go (is_mark i j r) e (unmarked_idle rows)
+    where
+      go : (b : Bool) → false ≡ cond b true (marked i j rows) → (false ≡ marked i j rows → rows ≡ unmarked i j rows)
+          → r ∷ rows ≡ cond b (unmarked i j rows) (r ∷ unmarked i j rows)
+      go true h later = cc
+      go false h later = ap (λ rs. r ∷ rs) (later h)
 
   -- no row below index m has a plan for the place
   abbrev pub NoneBelow : ℕ → List Row → Type 0

@@ -172,16 +172,17 @@ impl<W: WritableShelf> ReadableShelf for FaultLayer<W> {
         self.shelf.block_count()
     }
 
-    // A marked place is blind; any other is as the shelf below shows it.
+    // A marked place is blind; any other is as the shelf below shows it, which also refuses: so layers on layers ask for the
+    // numbers of cards and blocks only once.
     #[tactic(auto, unfolding(shelf::specs::Model::read_answer, shelf::specs::Model::read_buffer))]
     fn read(&self, slot: u32, block: u32, buf: &mut [u8]) -> Result<Sight, Refusal> {
+        if !self.table.is_marked(Place { slot, block }) {
+            return self.shelf.read(slot, block, buf);
+        }
         if buf.len() != 128 {
             return Err(Refusal::Length);
         }
-        let place = self.place(slot, block)?;
-        if !self.table.is_marked(place) {
-            return self.shelf.read(slot, block, buf);
-        }
+        self.place(slot, block)?;
         buf.fill(0);
         Ok(Sight::Blind)
     }

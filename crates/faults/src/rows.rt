@@ -50,7 +50,7 @@ impl Row {
     pub fn is_mark(self, place: Place) -> bool
         ensures { result ≡ is_mark place.slot place.block self }
     {
-        self == Row::Mark(place)
+        matches!(self, Row::Mark(at) if at == place)
     }
 
     // Its plan, if it is one for the place.

@@ -79,11 +79,13 @@ impl Table {
         *row = row.turned();
     }
 
-    // Frees the row of every mark on the place.
+    // Frees the row of every mark on the place. Most writes meet no mark, and then no row is moved.
     pub fn unmark(&mut self, place: Place)
         ensures { self.new.rows.items ≡ unmarked place.slot place.block self.old.rows.items }
     {
-        self.rows.retain(|row| !row.is_mark(place));
+        if self.is_marked(place) {
+            self.rows.retain(|row| !row.is_mark(place));
+        }
     }
 
     // Uses up a plan for the place: its row is freed, or turned into a mark by a spoil where there is none.

@@ -27,11 +27,11 @@ use Rattle.block.proofs.LayoutLaws.{word_back, there_and_back, length_body}
 use Rattle.block.proofs.OneByte.{changed_is_broken}
 
 -- rows of bytes stay rows of bytes
-bytes_append : (xs ys : List ℕ) → Bytes xs → Bytes ys → Bytes (xs ++ ys)
+pub bytes_append : (xs ys : List ℕ) → Bytes xs → Bytes ys → Bytes (xs ++ ys)
 bytes_append [] ys h k = k
 bytes_append (x ∷ xs) ys h k = (h.0, bytes_append xs ys h.1 k)
 
-bytes_set : (xs : List ℕ) (i v : ℕ) → Bytes xs → v < 256 → Bytes (set xs i v)
+pub bytes_set : (xs : List ℕ) (i v : ℕ) → Bytes xs → v < 256 → Bytes (set xs i v)
 bytes_set [] i v h l = tt
 bytes_set (x ∷ xs) zero v h l = (l, h.1)
 bytes_set (x ∷ xs) (suc i) v h l = (h.0, bytes_set xs i v h.1 l)
@@ -118,7 +118,7 @@ module _ (E : Setup) (s : ℕ) (r : Role) (payload : List ℕ) (owner : ℕ) (ve
   unfolding block_with sealed_by
   block_length = length-append (body fields) (bytes_of (E.sum (body fields))) ∙ ap (λ n. n + 4) row_body.long
 
-  block_bytes : Bytes bytes128
+  pub block_bytes : Bytes bytes128
   unfolding block_with sealed_by
   block_bytes = bytes_append (body fields) (bytes_of (E.sum (body fields))) bytes_body (bytes_word (E.sum (body fields)))
 
@@ -130,11 +130,11 @@ module _ (E : Setup) (s : ℕ) (r : Role) (payload : List ℕ) (owner : ℕ) (ve
   unfolding block_with sealed_by
   block_sum = word_back (body fields) [] 124 (E.sum (body fields)) row_body.long (h.narrow (body fields) row_body)
 
-  block_right : RightSum E.sum bytes128
+  pub block_right : RightSum E.sum bytes128
   block_right = record { long = block_length; bytes = block_bytes; sum = block_sum ∙ ap E.sum (sym block_front) }
 
   -- the fields are read back
-  block_decoded : decoded bytes128 ≡ fields
+  pub block_decoded : decoded bytes128 ≡ fields
   unfolding block_with sealed_by
   block_decoded = there_and_back fields (E.sum (body fields)) sound
 
@@ -145,7 +145,7 @@ module _ (E : Setup) (s : ℕ) (r : Role) (payload : List ℕ) (owner : ℕ) (ve
   block_version k l = sym (get_d_words 7 bytes128 92 k l) ∙ ap (λ f. get_or f.versions k 0) block_decoded
 
   -- the block is judged readable
-  block_whole : broken_by E.sum bytes128 ≡ false
+  pub block_whole : broken_by E.sum bytes128 ≡ false
   unfolding broken_by
   block_whole = ap not (eq-eqb _ _ block_right.sum)
 
@@ -156,7 +156,7 @@ module _ (E : Setup) (s : ℕ) (r : Role) (payload : List ℕ) (owner : ℕ) (ve
       (and_from _ _ (eq-eqb _ _ (ap (λ f. f.mark) block_decoded))
       (and_from _ _ (eq-eqb _ _ (ap (λ f. f.slot) block_decoded)) (eq-eqb _ _ (ap (λ f. f.cards) block_decoded))))
 
-  block_native : ((k : ℕ) → used_of E.D r ≤ k → k < 7 → get_or versions k 0 ≡ 0) → native_block E s r bytes128 ≡ true
+  pub block_native : ((k : ℕ) → used_of E.D r ≤ k → k < 7 → get_or versions k 0 ≡ 0) → native_block E s r bytes128 ≡ true
   unfolding native_block
   block_native zeros =
       and_from _ _ marks_fit_lem

@@ -132,3 +132,13 @@ module _ (E : Setup) (s : ℕ) (V : View) where
       go (Only q) y = ap Only (a.others q y.inside y.itself)
       go Lost y =
           absurd (y.apart (a.others y.one y.one_in y.one_bad ∙ sym (a.others y.other y.other_in y.other_bad)))
+
+  -- two blocks are bad
+  pub is_lost : Several → decision E.D s V ≡ Lost
+  is_lost a = go (decision E.D s V) says
+    where
+      go : (x : Decision) → Says x → x ≡ Lost
+      go Clean y = absurd (both_ways (bad_role E.D V a.one) (y a.one a.one_in) a.one_bad)
+      go (Only q) y =
+          absurd (a.apart (y.others a.one a.one_in a.one_bad ∙ sym (y.others a.other a.other_in a.other_bad)))
+      go Lost y = refl

@@ -71,7 +71,7 @@ module _ (E : Setup) (C : CodecLaws E) (s : ℕ) (a : s < E.S) (f : ℕ → Rec)
       ∙ (at_beyond E.D (λ k. g (V (Data k))) 0
       ∙ xors_ext E.D (λ k. g (V (Data k))) (λ k. h (R k)) (λ k l. d k l (b (Data k) l (λ e. cc))))
 
-  mend_exact : (r : Role) → InStripe E r → Beside r → mended E s V r ≡ block_of E f s r
+  pub mend_exact : (r : Role) → InStripe E r → Beside r → mended E s V r ≡ block_of E f s r
   unfolding mended data_of parity_of parity_with others_row mended_versions
   mend_exact Parity i b =
       parity_ext E s (λ n. others E.D V Parity (λ v. byte_in v n)) (λ n. xors E.D (λ k. get_or (R k).payload n 0))

@@ -85,7 +85,7 @@ sent_here σ w c s x a b t =
     ∙ cond-true (named w c s) (Some w.bytes) x (named_yes w c s a b)
 
 -- a write that puts there what is there already
-same_put : (w : Write) (c s : ℕ) (b : List ℕ) → (c ≡ w.slot → s ≡ w.block → w.bytes ≡ b)
+pub same_put : (w : Write) (c s : ℕ) (b : List ℕ) → (c ≡ w.slot → s ≡ w.block → w.bytes ≡ b)
     → expected (w ∷ []) c s (Some b) ≡ Some b
 same_put w c s b h = go (cases_eq c w.slot) (cases_eq s w.block)
   where

@@ -83,7 +83,7 @@ memory_good E = record {
     last us w c s = expected_++ us (w ∷ []) c s (first c s)
 
 -- blocks of records have 128 bytes
-block_long : (E : Setup) → InRange E → (f : ℕ → Rec) → ((L : ℕ) → Fits (f L)) → (s : ℕ) → s < E.S → (r : Role) → InStripe E r
+pub block_long : (E : Setup) → InRange E → (f : ℕ → Rec) → ((L : ℕ) → Fits (f L)) → (s : ℕ) → s < E.S → (r : Role) → InStripe E r
     → length (block_of E f s r) ≡ 128
 unfolding data_of parity_of
 block_long E G f F s a Parity i =
@@ -108,7 +108,7 @@ whole_sent E σ w vs h r = go (takes_at (σ w.slot) w.block)
     go false = r
 
 -- a faithful shelf stays one, and does such writes as told
-faithful_after : (N S : ℕ) (m : Conduct) (us : List Write) → Faithful N S m → Faithful N S (after_all m us)
+pub faithful_after : (N S : ℕ) (m : Conduct) (us : List Write) → Faithful N S m → Faithful N S (after_all m us)
 faithful_after N S m us h ws w a b c =
     subst (λ (k : Conduct). AsTold N S k w) (λ i vs x y. m (append_assoc us ws vs i) x y) (h (us ++ ws) w a b c)
 
@@ -163,7 +163,7 @@ module _ (E : Setup) (G : InRange E) (C : CodecLaws E) (w : World) (I : Starts E
     new_long : (r : Role) → InStripe E r → length (block_of E (f' E G C w I O L p o y fs) (L / E.D) r) ≡ 128
     new_long = block_long E G (f' E G C w I O L p o y fs) new_fits (L / E.D) (a₀ E G C w I O L p o y fs W)
 
-    whole_data : Whole E (data_write E (L / E.D) (view_in E w (L / E.D)) (L % E.D) p o)
+    pub whole_data : Whole E (data_write E (L / E.D) (view_in E w (L / E.D)) (L % E.D) p o)
     whole_data = (
       slot_in E (L / E.D) (Data (L % E.D)) (l₀ E G C w I O L p o y fs),
       a₀ E G C w I O L p o y fs W,

@@ -29,7 +29,7 @@ use Rattle.runs.proofs.Worlds.{index_lt, stripe_lt, home, view_in, fine_good, so
 use Rattle.runs.proofs.Xors.{xors_ext}
 
 -- the records that an accepted write leaves
-parity_same : (E : Setup) (s : ℕ) (P Q : ℕ → Rec) → ((k : ℕ) → k < E.D → P k ≡ Q k) → parity_of E s P ≡ parity_of E s Q
+pub parity_same : (E : Setup) (s : ℕ) (P Q : ℕ → Rec) → ((k : ℕ) → k < E.D → P k ≡ Q k) → parity_of E s P ≡ parity_of E s Q
 unfolding parity_of parity_with
 parity_same E s P Q h =
     parity_ext E s (λ i. xors E.D (λ k. get_or (P k).payload i 0)) (λ i. xors E.D (λ k. get_or (Q k).payload i 0))
